@@ -1,0 +1,4 @@
+pub mod Pick
+pub mod Order
+pub mod Place
+pub mod Between

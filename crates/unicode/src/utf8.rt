@@ -1,0 +1,259 @@
+// UTF-8 as RFC 3629 has it: one sequence is decoded, one code point is encoded.
+ghost use mathlib.Core.Path.{_≡_};
+ghost use Prim.Native.Nat.{_+_, _*_, _%_, _^_, _≤_, _<_};
+ghost use lib.ListN.{drop};
+ghost use Rattle.unicode.specs.Utf8.{isScalar, stopNumber, markOf, leadOf, trailsOf, decodeOne, trailCount, trailByte, leadByte, encodeAnswer, encodeInto};
+
+// Why a sequence gives no scalar value. An illegal one has a length: up to and including the byte that made it so.
+// Only a conversion, which knows a table, makes Unassigned.
+pub enum Stop {
+    CutShort,
+    Illegal(usize),
+    Unassigned,
+}
+
+// What one sequence gives: a scalar value and how many bytes it took, or a stop.
+pub enum Sequence {
+    Scalar(u32, usize),
+    Stopped(Stop),
+}
+
+// What a lead byte says: how many trail bytes follow, the bounds of the first of them, and the lead's own bits.
+pub enum Lead {
+    Of {
+        trails: usize,
+        lo: u8,
+        hi: u8,
+        top: u32,
+    },
+    Illegal,
+}
+
+// What encoding gives: how many bytes were put, that they do not fit (for which a conversion answers 50), or that the
+// number is no scalar value.
+pub enum Put {
+    Done(usize),
+    Full,
+    NotScalar,
+}
+
+// Document 01's number for a stop.
+pub fn stop_number(stop: Stop) -> u32
+    ensures { λ r. ⌜ r ≡ stopNumber stop ⌝ }
+{
+    match stop {
+        Stop::CutShort => 51,
+        Stop::Illegal(_) => 52,
+        Stop::Unassigned => 53,
+    }
+}
+
+// Whether a number is a scalar value: a code point that is no surrogate.
+pub fn is_scalar(c: u32) -> bool
+    ensures { λ r. ⌜ r ≡ isScalar c ⌝ }
+{
+    if c < 0xd800 {
+        return true;
+    }
+    if c < 0xe000 {
+        return false;
+    }
+    c < 0x110000
+}
+
+fn wide(x: u8) -> u32
+    ensures { λ r. ⌜ r ≡ x ⌝ }
+{
+    x as u32
+}
+
+// The decision on the lead byte, by ranges.
+pub fn lead_of(b: u8) -> Lead
+    ensures { λ r. ⌜ r ≡ leadOf b ⌝ }
+{
+    match b {
+        0x00..=0x7f => Lead::Of {
+            trails: 0,
+            lo: 0x80,
+            hi: 0xbf,
+            top: wide(b),
+        },
+        0xc2..=0xdf => Lead::Of {
+            trails: 1,
+            lo: 0x80,
+            hi: 0xbf,
+            top: wide(b) & 0x1f,
+        },
+        0xe0 => Lead::Of {
+            trails: 2,
+            lo: 0xa0,
+            hi: 0xbf,
+            top: wide(b) & 0x0f,
+        },
+        0xe1..=0xec | 0xee..=0xef => Lead::Of {
+            trails: 2,
+            lo: 0x80,
+            hi: 0xbf,
+            top: wide(b) & 0x0f,
+        },
+        0xed => Lead::Of {
+            trails: 2,
+            lo: 0x80,
+            hi: 0x9f,
+            top: wide(b) & 0x0f,
+        },
+        0xf0 => Lead::Of {
+            trails: 3,
+            lo: 0x90,
+            hi: 0xbf,
+            top: wide(b) & 0x07,
+        },
+        0xf1..=0xf3 => Lead::Of {
+            trails: 3,
+            lo: 0x80,
+            hi: 0xbf,
+            top: wide(b) & 0x07,
+        },
+        0xf4 => Lead::Of {
+            trails: 3,
+            lo: 0x80,
+            hi: 0x8f,
+            top: wide(b) & 0x07,
+        },
+        _ => Lead::Illegal,
+    }
+}
+
+// The lowest group of six bits.
+fn low_six(t: u32) -> u32
+    ensures { λ r. ⌜ r ≡ t % 64 ⌝ }
+{
+    t & 0x3f
+}
+
+// A trail byte's six bits, put under a value that has room for them.
+fn put_six(v: u32, x: u8) -> u32
+    requires { ⌜ v < 2 ^ 26 ⌝ }
+    ensures { λ r. ⌜ r ≡ v * 64 + x % 64 ⌝ }
+{
+    (v << 6) | low_six(wide(x))
+}
+
+// The trail bytes behind the first byte of `s`, the first of them from `lo` to `hi`, each putting six bits under `top`.
+fn trails_of(s: &[u8], trails: usize, lo: u8, hi: u8, top: u32) -> Sequence
+    requires { ⌜ (trails ≤ 3) × (top < 128) ⌝ }
+    ensures { λ r. ⌜ r ≡ trailsOf trails lo hi top 1 (drop 1 (now (s .entry))) ⌝ }
+{
+    let mut left = trails;
+    let mut i = 1;
+    let mut l = lo;
+    let mut h = hi;
+    let mut v = top;
+    while 0 < left {
+        if s.len() <= i {
+            return Sequence::Stopped(Stop::CutShort);
+        }
+        let x = s[i];
+        if x < l {
+            return Sequence::Stopped(Stop::Illegal(i + 1));
+        }
+        if h < x {
+            return Sequence::Stopped(Stop::Illegal(i + 1));
+        }
+        v = put_six(v, x);
+        l = 0x80;
+        h = 0xbf;
+        left -= 1;
+        i += 1;
+    }
+    Sequence::Scalar(v, i)
+}
+
+// The sequence at the front of `s`.
+pub fn decode(s: &[u8]) -> Sequence
+    ensures { λ r. ⌜ r ≡ decodeOne (now (s .entry)) ⌝ }
+{
+    if s.len() == 0 {
+        return Sequence::Stopped(Stop::CutShort);
+    }
+    let lead = lead_of(s[0]);
+    match lead {
+        Lead::Of {
+            trails,
+            lo,
+            hi,
+            top,
+        } => trails_of(s, trails, lo, hi, top),
+        Lead::Illegal => Sequence::Stopped(Stop::Illegal(1)),
+    }
+}
+
+// How many trail bytes a code point takes.
+fn trail_count(c: u32) -> usize
+    ensures { λ r. ⌜ r ≡ trailCount c ⌝ }
+{
+    if c < 0x80 {
+        return 0;
+    }
+    if c < 0x800 {
+        return 1;
+    }
+    if c < 0x10000 {
+        return 2;
+    }
+    3
+}
+
+// What marks a lead byte before `k` trail bytes.
+fn mark(k: usize) -> u32
+    requires { ⌜ k ≤ 3 ⌝ }
+    ensures { λ r. ⌜ r ≡ markOf k ⌝ }
+{
+    match k {
+        0 => 0,
+        1 => 0xc0,
+        2 => 0xe0,
+        _ => 0xf0,
+    }
+}
+
+// The lead byte of a code point before its `k` trail bytes.
+fn lead_byte(c: u32, k: usize) -> u8
+    requires { ⌜ (k ≡ trailCount c) × (c < 0x110000) ⌝ }
+    ensures { λ r. ⌜ r ≡ leadByte c k ⌝ }
+{
+    (mark(k) | (c >> (6 * k))) as u8
+}
+
+// The trail byte of a code point before `k` more.
+fn trail_byte(c: u32, k: usize) -> u8
+    requires { ⌜ k ≤ 2 ⌝ }
+    ensures { λ r. ⌜ r ≡ trailByte c k ⌝ }
+{
+    (0x80 | low_six(c >> (6 * k))) as u8
+}
+
+// The code point's bytes, put into `out` from `at` on where it is a scalar value and they fit; else `out` is as it was.
+pub fn encode(c: u32, out: &mut [u8], at: usize) -> Put
+    ensures { λ r. ⌜ (r ≡ encodeAnswer c (now (out .entry)) at) × (now (out .exit) ≡ encodeInto c (now (out .entry)) at) ⌝ }
+{
+    if !is_scalar(c) {
+        return Put::NotScalar;
+    }
+    let trails = trail_count(c);
+    if out.len() <= trails {
+        return Put::Full;
+    }
+    if out.len() - trails <= at {
+        return Put::Full;
+    }
+    out[at] = lead_byte(c, trails);
+    let mut k = trails;
+    let mut i = at + 1;
+    while 0 < k {
+        k -= 1;
+        out[i] = trail_byte(c, k);
+        i += 1;
+    }
+    Put::Done(trails + 1)
+}
