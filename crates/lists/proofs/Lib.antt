@@ -2,3 +2,14 @@ pub mod Laws
 pub mod Order
 pub mod Cases
 pub mod Between
+pub mod Append
+pub mod Parts
+pub mod Choice
+pub mod Halving
+pub mod Members
+pub mod AllParts
+pub mod Chains
+pub mod First
+pub mod Paging
+pub mod Pairs
+pub mod Front

@@ -2,3 +2,4 @@ pub mod Pick
 pub mod Order
 pub mod Place
 pub mod Between
+pub mod Paging

@@ -1,0 +1,138 @@
+-- Paging through a rising list: calls with an allowance and a space, each from the position that the one before handed back.
+-- A is what is looked at, E an entry, P a position.
+use Prim.Native.Nat.{ℕ, zero, suc, _+_, _≤_}
+use mathlib.Core.Path.{_≡_}
+use mathlib.Core.Bool.{Bool, true, false, not}
+use mathlib.Core.Logic.{_↔_, _⊎_}
+use mathlib.Core.Option.{Option, none, some}
+use mathlib.Core.List.{List, [], _∷_, _++_, head?}
+use lib.ListN.{length}
+use Rattle.lists.specs.Pick.{pick}
+use Rattle.lists.specs.Order.{All, In, Rising}
+
+-- the position before every element, whether an element comes after a position, an element's own position,
+-- its entry if it needs one, and the first element after a position
+pub record Listing (A E P : Type 0) : Type 0 where
+  pub start : P
+  pub after : P → A → Bool
+  pub at : A → P
+  pub note : A → Option E
+  pub next : P → Option A
+
+-- what a call hands back: its entries, how many elements it looked at, the position of the last of them, whether none is left
+pub record Page (E P : Type 0) : Type 0 where
+  pub entries : List E
+  pub count : ℕ
+  pub position : P
+  pub finished : Bool
+
+-- the same page with its position told in another way
+abbrev pub toldBy : {E P Q : Type 0} → (P → Q) → Page E P → Page E Q
+toldBy g a = record { entries = a .entries; count = a .count; position = g (a .position); finished = a .finished }
+
+-- how many elements a call may look at, and how many entries it has space for
+pub record Call : Type 0 where
+  pub allowance : ℕ
+  pub space : ℕ
+
+-- those of a list for which f holds
+unfoldable pub those : {A : Type 0} → (A → Bool) → List A → List A
+those f [] = []
+those f (x ∷ l) = let r = those f l in pick (f x) (x ∷ r) r
+
+-- an entry, if there is one, before others
+abbrev pub put : {E : Type 0} → Option E → List E → List E
+put none l = l
+put (some e) l = e ∷ l
+
+abbrev pub isNone : {A : Type 0} → Option A → Bool
+isNone none = true
+isNone (some a) = false
+
+abbrev pub stoppedAt : {E P : Type 0} → P → Bool → Page E P
+stoppedAt p f = record { entries = []; count = 0; position = p; finished = f }
+
+-- one more element was looked at
+abbrev pub counted : {E P : Type 0} → Option E → Page E P → Page E P
+counted e a = record { entries = put e (a .entries); count = suc (a .count); position = a .position; finished = a .finished }
+
+module _ {A E P : Type 0} (S : Listing A E P) where
+  -- those that come after a position, and those up to and including it
+  abbrev pub left : P → List A → List A
+  left p l = those (S .after p) l
+
+  abbrev pub upTo : P → List A → List A
+  upTo p l = those (λ a. not (S .after p a)) l
+
+  -- the entries of a list's elements
+  unfoldable pub notes : List A → List E
+  notes [] = []
+  notes (a ∷ l) = put (S .note a) (notes l)
+
+  -- an element with its entry: it needs none; or there is no space for it; or there is. `go` is the rest of the call
+  abbrev pub lookAt : P → A → Option E → ℕ → (ℕ → P → Page E P) → Page E P
+  lookAt p a none space go = counted none (go space (S .at a))
+  lookAt p a (some e) zero go = stoppedAt p false
+  lookAt p a (some e) (suc space) go = counted (some e) (go space (S .at a))
+
+  abbrev pub look : P → Option A → ℕ → (ℕ → P → Page E P) → Page E P
+  look p none space go = stoppedAt p true
+  look p (some a) space go = lookAt p a (S .note a) space go
+
+  -- one call, by its allowance, its space and its position
+  unfoldable pub pageFrom : ℕ → ℕ → P → Page E P
+  pageFrom zero space p = stoppedAt p (isNone (S .next p))
+  pageFrom (suc n) space p = look p (S .next p) space (pageFrom n)
+
+  -- a list of calls, the first from a position
+  unfoldable pub run : P → List Call → List (Page E P)
+  run p [] = []
+  run p (c ∷ cs) = let a = pageFrom (c .allowance) (c .space) p in a ∷ run (a .position) cs
+
+module _ {E P : Type 0} where
+  unfoldable pub joined : List (Page E P) → List E
+  joined [] = []
+  joined (a ∷ rest) = a .entries ++ joined rest
+
+  unfoldable pub summed : List (Page E P) → ℕ
+  summed [] = 0
+  summed (a ∷ rest) = a .count + summed rest
+
+  -- the position that the last call handed back; the first one's own where there is no call
+  unfoldable pub lastPosition : P → List (Page E P) → P
+  lastPosition p [] = p
+  lastPosition p (a ∷ rest) = lastPosition (a .position) rest
+
+  -- whether the last call is finished
+  unfoldable pub lastFinished : Bool → List (Page E P) → Bool
+  lastFinished f [] = f
+  lastFinished f (a ∷ rest) = lastFinished (a .finished) rest
+
+  -- something holds of each call's page and of the position that it was made at
+  abbrev pub EachFrom : (P → Page E P → Type 0) → P → List (Page E P) → Type 0
+  EachFrom Q p [] = Unit {0}
+  EachFrom Q p (a ∷ rest) = Q p a × EachFrom Q (a .position) rest
+
+  -- each call with an allowance and a space of at least one moves on or is finished
+  abbrev pub Moves : List Call → List (Page E P) → Type 0
+  Moves [] rest = Unit {0}
+  Moves (c ∷ cs) [] = Unit {0}
+  Moves (c ∷ cs) (a ∷ rest) = (1 ≤ c .allowance → 1 ≤ c .space → (1 ≤ a .count) ⊎ (a .finished ≡ true)) × Moves cs rest
+
+-- the elements of a listing: they rise, and `next` finds the first of them after a position
+pub record Lawful {A E P : Type 0} (S : Listing A E P) (L : List A) : Type 0 where
+  pub rising : Rising (λ a b. S .after (S .at a) b) L
+  pub irrefl : (a : A) → S .after (S .at a) a ≡ false
+  pub trans : (p : P) (a b : A) → S .after p a ≡ true → S .after (S .at a) b ≡ true → S .after p b ≡ true
+  pub next-is : (p : P) → S .next p ≡ head? (left S p L)
+  pub begins : All (λ a. S .after (S .start) a ≡ true) L
+
+-- what any list of calls gives together, the first from the start
+pub record Paged {A E P : Type 0} (S : Listing A E P) (L : List A) (cs : List Call) : Type 0 where
+  pub entries : joined (run S (S .start) cs) ≡ notes S (upTo S (lastPosition (S .start) (run S (S .start) cs)) L)
+  pub counts : summed (run S (S .start) cs) ≡ length (upTo S (lastPosition (S .start) (run S (S .start) cs)) L)
+  pub each : EachFrom (λ p a. a .count ≡ length (upTo S (a .position) (left S p L))) (S .start) (run S (S .start) cs)
+  pub finished : All (λ a. (a .finished ≡ true) ↔ (left S (a .position) L ≡ [])) (run S (S .start) cs)
+  pub whole : lastFinished false (run S (S .start) cs) ≡ true → joined (run S (S .start) cs) ≡ notes S L
+  pub moves : Moves cs (run S (S .start) cs)
+  pub positions : All (λ a. (a .position ≡ S .start) ⊎ ((x : A) × In x L × (a .position ≡ S .at x))) (run S (S .start) cs)

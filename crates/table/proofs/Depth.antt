@@ -1,0 +1,115 @@
+-- T2 and T3: what they say of a row and a byte, how long a code can be, and that nothing past the needed entries matters.
+use Prim.Native.Nat.{ℕ, zero, suc, _+_, _-_, _*_, _<_, _≤_}
+use mathlib.Core.Path.{_≡_, refl, sym, ap, _∙_}
+use mathlib.Core.Bool.{Bool, true, false}
+use mathlib.Core.List.{List, [], _∷_}
+use native.Mathlib.Omega.{arith}
+use lib.Dec.{ltb, leb}
+use lib.ListN.{length, getD, take, drop, length-take}
+use lib.Seq.{getD-take, getD-drop}
+use borrow.Author.Tests.{ltb-true, ltb-false, leb-true, le-leb, lt-leb}
+use Rattle.lists.specs.Pick.{pick}
+use Rattle.lists.proofs.Laws.{clash, both-left, both-right}
+use Rattle.table.specs.Limits.{limits}
+use Rattle.table.specs.States.{Rows, stepOf, stepAt, endKind, leadsTo, within}
+use Rattle.table.specs.Codes.{AllByte}
+use Rattle.table.specs.Rules.{allOf, t2Row}
+use Rattle.table.specs.Valid.{zeros, stateOk, statesOk}
+use Rattle.table.specs.declared.states.Step.{Step}
+use Rattle.table.specs.declared.states.Step.the-variants.{Illegal, Ends, Leads}
+use Rattle.table.proofs.RowLaws.{step-leads, leads-ok, allOf-at, zeros-at, endOn, end-on, below-all}
+
+-- T3 at a byte that leads on
+pub within-row : (step : Rows) (d row b n : ℕ) → within step (suc d) row ≡ true → b < 256 → step row b ≡ Leads n → within step d n ≡ true
+unfolding within
+within-row step d row b n h lt e = rw e at (below-all (λ a. leadsTo (within step d) (step row a)) 256 h b lt)
+
+-- where every way leads on fewer than d times a code has at most d bytes
+short-by : (d : ℕ) (s : List ℕ) (x : Step) (go : ℕ → ℕ) → ((n : ℕ) → x ≡ Leads n → (go n ≡ 0 → ⊥) → length s ≤ d) → (endOn x s go ≡ 0 → ⊥) → length s ≤ d
+short-by d s Illegal go ih h = absurd (h refl)
+short-by d [] (Ends e) go ih h = omega arith
+short-by d (b ∷ s) (Ends e) go ih h = absurd (h refl)
+short-by d s (Leads n) go ih h = ih n refl h
+
+pub short-code : (step : Rows) (d row : ℕ) (s : List ℕ) → within step d row ≡ true → AllByte s → (endKind step row s ≡ 0 → ⊥) → length s ≤ d
+unfolding within AllByte
+short-code step d row [] w a h = omega arith
+short-code step zero row (b ∷ s) w a h = absurd (clash w refl)
+short-code step (suc d) row (b ∷ s) w a h =
+    let r = short-by d s (step row b) (λ n. endKind step n s) (λ n q. short-code step d n s (within-row step d row b n w (a .0) q) (a .1)) (λ e. h (end-on step row b s (step row b) refl ∙ e)) in
+    omega arith
+
+-- the test of the states, by their number
+pub states-few : (n : ℕ) (ts : List ℕ) → length ts < 4096 → statesOk limits n ts ≡ false
+unfolding statesOk
+states-few n ts h = rw (lt-leb 4096 (length ts) h)
+
+pub states-test : (n : ℕ) (ts : List ℕ) → 4096 ≤ length ts → statesOk limits n ts ≡ pick (allOf (stateOk n) (take (n * 256) ts)) (zeros (take (4096 - n * 256) (drop (n * 256) ts))) false
+unfolding statesOk
+states-test n ts h = rw (le-leb 4096 (length ts) h)
+
+-- the parts of the test of the states
+pub record StatesKept (n : ℕ) (ts : List ℕ) : Type 0 where
+  pub long : 4096 ≤ length ts
+  pub entries : allOf (stateOk n) (take (n * 256) ts) ≡ true
+  pub behind : zeros (take (4096 - n * 256) (drop (n * 256) ts)) ≡ true
+
+pub states-kept : (n : ℕ) (ts : List ℕ) → statesOk limits n ts ≡ true → StatesKept n ts
+unfolding statesOk
+states-kept n ts h =
+    let a = allOf (stateOk n) (take (n * 256) ts) in
+    let z = zeros (take (4096 - n * 256) (drop (n * 256) ts)) in
+    let r = both-right (leb 4096 (length ts)) (pick a z false) h in
+    record { long = leb-true 4096 (length ts) (both-left (leb 4096 (length ts)) (pick a z false) h); entries = both-left a z r; behind = both-right a z r }
+
+-- entries behind the last row are zeros
+pub zero-behind : (n : ℕ) (ts : List ℕ) → StatesKept n ts → (j : ℕ) → n * 256 ≤ j → j < 4096 → getD ts j 0 ≡ 0
+zero-behind n ts k j h lt =
+    let e : n * 256 + (j - n * 256) ≡ j = omega arith in
+    ap (λ (i : ℕ). getD ts i 0) (sym e)
+    ∙ sym (getD-drop (n * 256) ts (j - n * 256) 0)
+    ∙ sym (getD-take (4096 - n * 256) (drop (n * 256) ts) (j - n * 256) 0 (omega arith))
+    ∙ zeros-at (take (4096 - n * 256) (drop (n * 256) ts)) (j - n * 256) (k .behind)
+
+-- every needed entry is of the form and keeps T2
+pub entry-kept : (n : ℕ) (ts : List ℕ) → StatesKept n ts → (j : ℕ) → j < 4096 → stateOk n (getD ts j 0) ≡ true
+entry-kept n ts k j lt = go (ltb j (n * 256)) refl
+  where
+    go : (t : Bool) → ltb j (n * 256) ≡ t → stateOk n (getD ts j 0) ≡ true
+    go true u =
+        let h = ltb-true j (n * 256) u in
+        let l = k .long in
+        rw (getD-take (n * 256) ts j 0 h) at (allOf-at (stateOk n) (take (n * 256) ts) j 0 (k .entries) (rw (length-take (n * 256) ts) (omega arith)))
+    go false u = rw (zero-behind n ts k j (ltb-false j (n * 256) u) lt)
+
+-- what lies past the needed entries does not matter to a row and a byte
+pub step-needed : (ts : List ℕ) (r b : ℕ) → r < 16 → b < 256 → stepAt (take 4096 ts) r b ≡ stepAt ts r b
+unfolding stepAt
+step-needed ts r b hr hb = ap stepOf (getD-take 4096 ts (r * 256 + b) 0 (omega arith))
+
+pub t2-kept : (n : ℕ) (ts : List ℕ) → StatesKept n ts → (r b m : ℕ) → r < 16 → b < 256 → stepAt ts r b ≡ Leads m → (1 ≤ m) × (m < n)
+unfolding stepAt
+t2-kept n ts k r b m hr hb e =
+    let x : ℕ = getD ts (r * 256 + b) 0 in
+    let q = step-leads x m e in
+    let o : t2Row n (x - 16) ≡ true = sym (leads-ok n x (q .0)) ∙ entry-kept n ts k (r * 256 + b) (omega arith) in
+    let lo = leb-true 1 (x - 16) (both-left (leb 1 (x - 16)) (ltb (x - 16) n) o) in
+    let hi = ltb-true (x - 16) n (both-right (leb 1 (x - 16)) (ltb (x - 16) n) o) in
+    (omega (arith, q .1), omega (arith, q .1))
+
+-- T2: a row led to exists and is not row 0
+pub t2-at : (n : ℕ) (ts : List ℕ) → statesOk limits n ts ≡ true → (r b m : ℕ) → r < 16 → b < 256 → stepAt (take 4096 ts) r b ≡ Leads m → (1 ≤ m) × (m < n)
+t2-at n ts h r b m hr hb e = t2-kept n ts (states-kept n ts h) r b m hr hb (sym (step-needed ts r b hr hb) ∙ e)
+
+-- two ways to know the rows that say the same of the rows there can be
+pub record Agree (a c : Rows) : Type 0 where
+  pub same : (r b : ℕ) → r < 16 → b < 256 → a r b ≡ c r b
+  pub stay : (r b m : ℕ) → r < 16 → b < 256 → a r b ≡ Leads m → m < 16
+
+-- the states, and the needed ones of them
+pub needed-agree : (n : ℕ) (ts : List ℕ) → n ≤ 16 → statesOk limits n ts ≡ true → Agree (stepAt ts) (stepAt (take 4096 ts))
+needed-agree n ts few h =
+    record {
+      same = λ r b hr hb. sym (step-needed ts r b hr hb);
+      stay = λ r b m hr hb e. let q = t2-kept n ts (states-kept n ts h) r b m hr hb e in omega (arith, q .1);
+    }

@@ -1,0 +1,364 @@
+-- Laws of header lines: the verdict on a line, ranges of values, the rows that lines give.
+use mathlib.Core.Path.{_≡_, refl, sym, ap, _∙_, subst}
+use mathlib.Core.Bool.{Bool, true, false}
+use mathlib.Core.Logic.{inl, inr}
+use mathlib.Core.List.{List, [], _∷_, _++_}
+use Prim.Native.Nat.{ℕ, _+_, _-_, _/_, _<_, _≤_}
+use native.Mathlib.Omega.{arith}
+use lib.Dec.{ltb, leb, eqb}
+use lib.ListN.{length, getD, take, drop, replicate, length-replicate}
+use borrow.Author.Tests.{lt-ltb, leb-false, leb-true, ltb-true, eqb-false}
+use Rattle.lists.specs.Pick.{pick}
+use Rattle.lists.specs.Order.{All, In, Rising, risesFrom, rises}
+use Rattle.lists.proofs.Laws.{clash, both}
+use Rattle.lists.proofs.Order.{all-map, all-in, all-of, rises-is}
+use Rattle.lists.proofs.Cases.{pick-case}
+use Rattle.lists.proofs.AllParts.{all-same}
+use Rattle.table.specs.declared.header.Line.{Line}
+use Rattle.table.specs.declared.text.Num.{Num}
+use Rattle.table.specs.declared.text.Num.the-variants.{Val, Bad}
+use Rattle.table.specs.declared.text.Place.{Place}
+use Rattle.table.specs.declared.text.Place.the-variants.{At, No}
+use Rattle.table.specs.declared.text.Run.{Run}
+use Rattle.table.specs.declared.text.Run.the-variants.{Bytes, Wrong}
+use Rattle.table.specs.declared.header.Column.{Column}
+use Rattle.table.specs.declared.header.Quoted.{Quoted}
+use Rattle.table.specs.declared.header.Quoted.the-variants.{Inside, Unquoted}
+use Rattle.table.specs.declared.header.Key.{Key}
+use Rattle.table.specs.declared.header.Key.the-variants.{CodeSetName, CurMin, CurMax, ConvClass, SubChar, SubChar1, State, Base, Other}
+use Rattle.table.specs.declared.header.Value.{Value}
+use Rattle.table.specs.declared.header.Value.the-variants.{Unfit, Any, Later, Name, Min, Max, Class, Sub, Sub1, Row}
+use Rattle.table.specs.declared.header.Line.the-variants.{NoForm, Blank, Charmap, Known}
+use Rattle.table.specs.declared.header.Head.{Head}
+use Rattle.table.specs.declared.load.Refusal.{Refusal}
+use Rattle.table.specs.declared.load.Verdict.{Verdict}
+use Rattle.table.specs.declared.load.Verdict.the-variants.{Fine, Refuse}
+use Rattle.table.specs.Text.{byteOf, skipAt, endsAt, contentEnd, byteAt, joinAt, Series, withByte, bytesMore, bytesFrom, bytesAt, runOf, isCharmap, series, broken}
+use Rattle.table.specs.Row.{wellAt, painted, openAt, columnsOf, rowOf}
+use Rattle.table.specs.Header.{keyEnd, keyOf, quotedOf, nameIn, className, classIn, digitIn, minIn, maxIn, subIn, sub1Value, rowFrom, rowIn, valueOf, isRow, keyLine, keyedLine, lineAt, lineOf, InRange}
+use Rattle.table.specs.Numbers.{numberOf, n11, n12, n14, rowOver, n15, Cond, cond, lowest, keyConditions, charmapConditions, mappingConditions}
+use Rattle.table.specs.Load.{keepRow}
+use Rattle.table.specs.Limits.{Limits, limits}
+use Rattle.table.specs.Meaning.{same, Line as Mapping}
+use Rattle.table.specs.Rules.{allOf}
+use Rattle.table.specs.Codes.{packed, unpacked, AllByte}
+use Rattle.table.specs.Memory.{known}
+use Rattle.table.proofs.Packing.{length-unpacked, unpacked-bytes, packed-fits, packed-padded, pack-unpack}
+use Rattle.table.proofs.TextLaws.{scan, ends-inside, Forth, byte-forth, SeriesByte, more-bytes}
+use Rattle.table.proofs.RowText.{Bounded, columns-bounded, painted-length, painted-all, meaning-known, meaning-below}
+use Rattle.table.specs.declared.load.Refusal.the-variants as refusal
+
+-- a key's line, condition by condition
+pub key-verdict : (h : Head) (k : Key) (v : Value) →
+    lowest (keyConditions limits h k v)
+    ≡ pick (n11 h k) (Refuse refusal.KeyAgain) (pick (n12 v) (Refuse refusal.UnfitValue) (pick (n14 (h .rows) v) (Refuse refusal.NotBuilt) (pick (n15 limits (h .rows) v) (Refuse refusal.OutOfRange) Fine)))
+unfolding lowest keyConditions
+key-verdict h k v = refl
+
+-- subchar and subchar1 by the run of bytes as the code holds it
+abbrev pub subRun : List ℕ → Run → Value
+subRun v Wrong = Unfit
+subRun v (Bytes b n m e) = pick m Unfit (pick (leb n 4) (pick (leb (length v) (skipAt v e)) (Sub b n) Unfit) Unfit)
+
+pub sub-run : (v : List ℕ) (x : Series) → subIn v x ≡ subRun v (runOf x)
+unfolding subIn
+sub-run v broken = refl
+sub-run v (series l m e) = refl
+
+abbrev pub sub1Run : List ℕ → Run → Value
+sub1Run v Wrong = Unfit
+sub1Run v (Bytes b n m e) = pick m Unfit (pick (leb n 1) (pick (leb (length v) (skipAt v e)) (Sub1 (b / 16777216)) Unfit) Unfit)
+
+pub sub1-run : (v : List ℕ) (x : Series) → sub1Value v x ≡ sub1Run v (runOf x)
+unfolding sub1Value
+sub1-run v broken = refl
+sub1-run v (series l m e) = refl
+
+-- a line that does not end at p: what the byte there makes of it
+pub line-key : (s : List ℕ) (p : ℕ) → endsAt s p ≡ false → getD s p 0 ≡ 60 → lineAt s p ≡ keyedLine s (p + 1) (keyEnd (p + 1) (drop (p + 1) s))
+unfolding lineAt
+line-key s p e h = let lt = ends-inside s p e in search (scan, e)
+
+pub line-other : (s : List ℕ) (p : ℕ) → endsAt s p ≡ false → (getD s p 0 ≡ 60 → ⊥) → lineAt s p ≡ pick (isCharmap s p) Charmap NoForm
+unfolding lineAt
+line-other s p e h = let lt = ends-inside s p e in search (scan, e)
+
+-- a digit is 1 to 4, or 0 for none
+digit-range : (v : List ℕ) (at : ℕ) → digitIn v at ≤ 4
+unfolding digitIn
+digit-range v at =
+    pick-case P (ltb (byteOf v at) 49) _ _ (λ _. omega arith)
+    (λ _. pick-case P (leb (byteOf v at) 52) _ _
+    (λ h. pick-case P (leb (length v) (skipAt v (at + 1))) _ _ (λ _. omega (arith, leb-true (byteOf v at) 52 h)) (λ _. omega arith))
+    (λ _. omega arith))
+  where
+    P : ℕ → Type 0
+    P d = d ≤ 4
+
+one-up : (d : ℕ) → eqb d 0 ≡ false → 1 ≤ d
+one-up d e = let n = eqb-false d 0 e in omega arith
+
+min-range : (d : ℕ) → d ≤ 4 → InRange (minIn d)
+unfolding minIn InRange
+min-range d h = pick-case InRange (eqb d 0) _ _ (λ _. tt) (λ e. (one-up d e, h))
+
+max-range : (d : ℕ) → d ≤ 4 → InRange (maxIn d)
+unfolding maxIn InRange
+max-range d h = pick-case InRange (eqb d 0) _ _ (λ _. tt) (λ e. (one-up d e, h))
+
+name-range : (x : Quoted) → InRange (nameIn x)
+unfolding nameIn InRange
+name-range Unquoted = tt
+name-range (Inside a e) = pick-case InRange (eqb a e) _ _ (λ _. tt) (λ _. tt)
+
+class-picked : (a b c d : Bool) → InRange (pick a (Class 1) (pick b (Class 2) (pick c Later (pick d Later Unfit))))
+unfolding InRange
+class-picked true b c d = (omega arith, omega arith)
+class-picked false true c d = (omega arith, omega arith)
+class-picked false false true d = tt
+class-picked false false false true = tt
+class-picked false false false false = tt
+
+class-range : (v : List ℕ) (x : Quoted) → InRange (classIn v x)
+unfolding classIn className InRange
+class-range v Unquoted = tt
+class-range v (Inside a e) =
+    let w = take (e - a) (drop a v) in
+    class-picked (same w (83 ∷ 66 ∷ 67 ∷ 83 ∷ [])) (same w (77 ∷ 66 ∷ 67 ∷ 83 ∷ [])) (same w (68 ∷ 66 ∷ 67 ∷ 83 ∷ []))
+    (same w (69 ∷ 66 ∷ 67 ∷ 68 ∷ 73 ∷ 67 ∷ 95 ∷ 83 ∷ 84 ∷ 65 ∷ 84 ∷ 69 ∷ 70 ∷ 85 ∷ 76 ∷ []))
+
+-- a run has one byte or more
+abbrev SeriesFull : Series → Type 0
+SeriesFull broken = Unit {0}
+SeriesFull (series l m e) = (1 ≤ length l) × AllByte l
+
+with-full : (v : ℕ) (p : Bool) (r : Series) → v < 256 → SeriesByte r → SeriesFull (withByte v p r)
+unfolding AllByte
+with-full v p broken h a = tt
+with-full v p (series l m e) h a = (omega arith, (h, a))
+
+from-full : (s : List ℕ) (at : ℕ) (n : Num) → Forth 256 at n → SeriesFull (bytesFrom s n)
+from-full s at Bad h = tt
+from-full s at (Val v e) h = with-full v false (bytesMore (length s) s e (byteAt s (joinAt s e))) (h .0) (more-bytes (length s) s e _ (byteAt s (joinAt s e)) (byte-forth s (joinAt s e)))
+
+bytes-full : (s : List ℕ) (at : ℕ) → SeriesFull (bytesAt s at)
+unfolding bytesAt
+bytes-full s at = from-full s _ (byteAt s (skipAt s at)) (byte-forth s (skipAt s at))
+
+sub-range : (v : List ℕ) (x : Series) → SeriesFull x → InRange (subIn v x)
+unfolding subIn InRange
+sub-range v broken f = tt
+sub-range v (series l m e) f =
+    pick-case InRange m _ _ (λ _. tt)
+    (λ _. pick-case InRange (leb (length l) 4) _ _
+    (λ h. pick-case InRange (leb (length v) (skipAt v e)) _ _
+    (λ _. let le = leb-true (length l) 4 h in (f .0, le, packed-fits l (f .1), packed-padded l (f .1) (f .0) le)) (λ _. tt))
+    (λ _. tt))
+
+sub1-range : (v : List ℕ) (x : Series) → SeriesFull x → InRange (sub1Value v x)
+unfolding sub1Value InRange
+sub1-range v broken f = tt
+sub1-range v (series l m e) f =
+    pick-case InRange m _ _ (λ _. tt)
+    (λ _. pick-case InRange (leb (length l) 1) _ _
+    (λ _. pick-case InRange (leb (length v) (skipAt v e)) _ _ (λ _. omega (arith, packed-fits l (f .1))) (λ _. tt)) (λ _. tt))
+
+from-range : (v : List ℕ) (n : Num) → InRange (rowFrom v n)
+unfolding rowFrom InRange
+from-range v Bad = tt
+from-range v (Val k q) = pick-case InRange (wellAt v q) _ _ (λ _. tt) (λ _. tt)
+
+row-range : (v : List ℕ) → InRange (rowIn v)
+unfolding rowIn InRange
+row-range v = pick-case InRange (leb (length v) (skipAt v 0)) _ _ (λ _. tt) (λ _. from-range v (openAt v (skipAt v 0)))
+
+-- what a key's value holds lies in its range
+pub value-ranges : (k : Key) (v : List ℕ) → InRange (valueOf k v)
+unfolding valueOf InRange
+value-ranges CodeSetName v = name-range (quotedOf v)
+value-ranges CurMin v = min-range (digitIn v (skipAt v 0)) (digit-range v (skipAt v 0))
+value-ranges CurMax v = max-range (digitIn v (skipAt v 0)) (digit-range v (skipAt v 0))
+value-ranges ConvClass v = class-range v (quotedOf v)
+value-ranges SubChar v = sub-range v (bytesAt v 0) (bytes-full v 0)
+value-ranges SubChar1 v = sub1-range v (bytesAt v 0) (bytes-full v 0)
+value-ranges State v = row-range v
+value-ranges Base v = tt
+value-ranges Other v = tt
+
+-- a key's line: its value is that of the text from q to e
+abbrev ReadsAs : List ℕ → Line → Type 0
+ReadsAs s NoForm = Unit {0}
+ReadsAs s Blank = Unit {0}
+ReadsAs s Charmap = Unit {0}
+ReadsAs s (Known k v q e) = v ≡ valueOf k (take (e - q) (drop q s))
+
+key-reads : (s : List ℕ) (k : Key) (q : ℕ) (x : Place) → ReadsAs s (keyLine s k q x)
+unfolding keyLine
+key-reads s k q No = tt
+key-reads s k q (At e) = refl
+
+keyed-reads : (s : List ℕ) (at : ℕ) (x : Place) → ReadsAs s (keyedLine s at x)
+unfolding keyedLine
+keyed-reads s at No = tt
+keyed-reads s at (At e) =
+    pick-case (ReadsAs s) (eqb at e) _ _ (λ _. tt)
+    (λ _. key-reads s (keyOf (take (e - at) (drop at s))) (e + 1) (contentEnd false (e + 1) (drop (e + 1) s)))
+
+line-reads : (s : List ℕ) (p : ℕ) → ReadsAs s (lineAt s p)
+unfolding lineAt
+line-reads s p =
+    pick-case (ReadsAs s) (endsAt s p) _ _ (λ _. tt)
+    (λ _. pick-case (ReadsAs s) (eqb (byteOf s p) 60) _ _
+    (λ _. keyed-reads s (p + 1) (keyEnd (p + 1) (drop (p + 1) s)))
+    (λ _. pick-case (ReadsAs s) (isCharmap s p) _ _ (λ _. tt) (λ _. tt)))
+
+pub known-value : (s : List ℕ) (k : Key) (v : Value) (q e : ℕ) → lineOf s ≡ Known k v q e → v ≡ valueOf k (take (e - q) (drop q s))
+unfolding lineOf
+known-value s k v q e h = subst (ReadsAs s) h (line-reads s (skipAt s 0))
+
+pub known-range : (s : List ℕ) (k : Key) (v : Value) (q e : ℕ) → lineOf s ≡ Known k v q e → InRange v
+known-range s k v q e h = subst InRange (sym (known-value s k v q e h)) (value-ranges k (take (e - q) (drop q s)))
+
+-- conditions in the order of their numbers
+abbrev pub byNumber : Cond → Cond → Bool
+byNumber a b = ltb (numberOf (a .refusal)) (numberOf (b .refusal))
+
+number-trans : (a b c : Cond) → byNumber a b ≡ true → byNumber b c ≡ true → byNumber a c ≡ true
+number-trans a b c p q =
+    let x = ltb-true (numberOf (a .refusal)) (numberOf (b .refusal)) p in
+    let y = ltb-true (numberOf (b .refusal)) (numberOf (c .refusal)) q in
+    lt-ltb (numberOf (a .refusal)) (numberOf (c .refusal)) (omega arith)
+
+pub key-rises : (lim : Limits) (h : Head) (k : Key) (v : Value) → Rising byNumber (keyConditions lim h k v)
+unfolding keyConditions rises risesFrom
+key-rises lim h k v = rises-is byNumber number-trans (keyConditions lim h k v) refl
+
+pub charmap-rises : (h : Head) (rows : List (List ℕ)) → Rising byNumber (charmapConditions h rows)
+unfolding charmapConditions rises risesFrom
+charmap-rises h rows = rises-is byNumber number-trans (charmapConditions h rows) refl
+
+pub mapping-rises : (lim : Limits) (h : Head) (rows : List (List ℕ)) (ls : List Mapping) (l : Mapping) → Rising byNumber (mappingConditions lim h rows ls l)
+unfolding mappingConditions rises risesFrom
+mapping-rises lim h rows ls l = rises-is byNumber number-trans (mappingConditions lim h rows ls l) refl
+
+abbrev refusedBy : Refusal → Verdict → Refusal
+refusedBy r Fine = r
+refusedBy r (Refuse x) = x
+
+refused-by : {a b : Refusal} → Refuse a ≡ Refuse b → a ≡ b
+refused-by {a} e = ap (refusedBy a) e
+
+abbrev isFine : Verdict → Bool
+isFine Fine = true
+isFine (Refuse x) = false
+
+refuse-fine : (r : Refusal) → Refuse r ≡ Fine → ⊥
+refuse-fine r e = clash (ap isFine e) refl
+
+-- Fine exactly when no condition holds
+pub lowest-none : (t : List Cond) → lowest t ≡ Fine → All (λ c. c .holds ≡ false) t
+unfolding lowest
+lowest-none [] e = tt
+lowest-none (c ∷ t) e = go (c .holds) refl (lowest-none t) e
+  where
+    go : (b : Bool) → c .holds ≡ b → (lowest t ≡ Fine → All (λ d. d .holds ≡ false) t) → pick b (Refuse (c .refusal)) (lowest t) ≡ Fine → All (λ d. d .holds ≡ false) (c ∷ t)
+    go true p ih e = absurd (refuse-fine (c .refusal) e)
+    go false p ih e = (p, ih e)
+
+pub none-lowest : (t : List Cond) → All (λ c. c .holds ≡ false) t → lowest t ≡ Fine
+unfolding lowest
+none-lowest [] h = refl
+none-lowest (c ∷ t) h = rw (h .0) (none-lowest t (h .1))
+
+-- what is refused is a condition of the table, and it holds
+pub lowest-holds : (t : List Cond) (r : Refusal) → lowest t ≡ Refuse r → In (cond r true) t
+unfolding lowest
+lowest-holds [] r e = absurd (refuse-fine r (sym e))
+lowest-holds (c ∷ t) r e = go (c .holds) refl (lowest-holds t r) e
+  where
+    go : (b : Bool) → c .holds ≡ b → (lowest t ≡ Refuse r → In (cond r true) t) → pick b (Refuse (c .refusal)) (lowest t) ≡ Refuse r → In (cond r true) (c ∷ t)
+    go true p ih e = inl (sym (λ i. cond (refused-by e i) (p i)))
+    go false p ih e = inr (ih e)
+
+-- and no condition with a lower number holds
+pub lowest-least : (t : List Cond) → Rising byNumber t → (r : Refusal) → lowest t ≡ Refuse r → (c : Cond) → In c t → c .holds ≡ true → numberOf r ≤ numberOf (c .refusal)
+unfolding lowest
+lowest-least [] h r e c i p = absurd i
+lowest-least (d ∷ t) h r e c i p = go (d .holds) refl (lowest-least t (h .1) r) e i
+  where
+    first : d .refusal ≡ r → In c (d ∷ t) → numberOf r ≤ numberOf (c .refusal)
+    first f (inl j) = let n : numberOf r ≡ numberOf (c .refusal) = sym (ap numberOf f) ∙ sym (ap (λ (x : Cond). numberOf (x .refusal)) j) in omega arith
+    first f (inr j) = let n = ltb-true (numberOf (d .refusal)) (numberOf (c .refusal)) (all-in (λ x. byNumber d x ≡ true) c t (h .0) j) in let m : numberOf (d .refusal) ≡ numberOf r = ap numberOf f in omega arith
+
+    go : (b : Bool) → d .holds ≡ b → (lowest t ≡ Refuse r → (x : Cond) → In x t → x .holds ≡ true → numberOf r ≤ numberOf (x .refusal)) → pick b (Refuse (d .refusal)) (lowest t) ≡ Refuse r → In c (d ∷ t) → numberOf r ≤ numberOf (c .refusal)
+    go true q ih e j = first (refused-by e) j
+    go false q ih e (inl j) = absurd (clash (sym (ap (λ (x : Cond). x .holds) j) ∙ p) q)
+    go false q ih e (inr j) = ih e c j p
+
+-- a row that is let through finds room
+over-room : (lim : Limits) (rows : ℕ) (v : Value) → isRow v ≡ true → n15 lim rows v ≡ false → leb (lim .rows) rows ≡ false
+unfolding isRow n15 rowOver
+over-room lim rows Unfit r e = absurd (clash r refl)
+over-room lim rows Any r e = absurd (clash r refl)
+over-room lim rows Later r e = absurd (clash r refl)
+over-room lim rows Name r e = absurd (clash r refl)
+over-room lim rows (Min d) r e = absurd (clash r refl)
+over-room lim rows (Max d) r e = absurd (clash r refl)
+over-room lim rows (Class c) r e = absurd (clash r refl)
+over-room lim rows (Sub b n) r e = absurd (clash r refl)
+over-room lim rows (Sub1 b) r e = absurd (clash r refl)
+over-room lim rows (Row w l o) r e = or-right o (leb (lim .rows) rows) e
+  where
+    or-right : (a b : Bool) → pick a true b ≡ false → b ≡ false
+    or-right true b e = absurd (clash refl e)
+    or-right false b e = e
+
+pub row-room : (h : Head) (k : Key) (v : Value) → lowest (keyConditions limits h k v) ≡ Fine → isRow v ≡ true → h .rows < 16
+unfolding keyConditions
+row-room h k v e r = leb-false 16 (h .rows) (over-room limits (h .rows) v r (lowest-none (keyConditions limits h k v) e .1 .1 .1 .0))
+
+-- the rows with a value's row behind them
+pub keep-row : (v : Value) (s : List ℕ) (rows : List (List ℕ)) → keepRow v s rows ≡ pick (isRow v) (rows ++ (rowOf (columnsOf s) ∷ [])) rows
+unfolding keepRow isRow
+keep-row Unfit s rows = refl
+keep-row Any s rows = refl
+keep-row Later s rows = refl
+keep-row Name s rows = refl
+keep-row (Min d) s rows = refl
+keep-row (Max d) s rows = refl
+keep-row (Class c) s rows = refl
+keep-row (Sub b n) s rows = refl
+keep-row (Sub1 b) s rows = refl
+keep-row (Row w l o) s rows = refl
+
+-- a row has 256 entries
+pub row-full : (cs : List Column) → All (λ c. c .hi < 256) cs → length (rowOf cs) ≡ 256
+unfolding rowOf
+row-full cs h = painted-length cs 256 (replicate 256 0) h (length-replicate {A = ℕ} 256 0)
+
+pub row-length : (s : List ℕ) → length (rowOf (columnsOf s)) ≡ 256
+row-length s = row-full (columnsOf s) (all-map (λ c (b : Bounded c). b .0) (columnsOf s) (columns-bounded s))
+
+all-true : (f : ℕ → Bool) (l : List ℕ) → All (λ x. f x ≡ true) l → allOf f l ≡ true
+unfolding allOf
+all-true f [] h = refl
+all-true f (x ∷ l) h = both (f x) (allOf f l) (h .0) (all-true f l (h .1))
+
+-- each of which is 0 to 3 or leads on
+pub row-known : (s : List ℕ) → allOf known (rowOf (columnsOf s)) ≡ true
+unfolding rowOf
+row-known s =
+    all-true known (painted (columnsOf s) (replicate 256 0))
+    (painted-all (λ x. known x ≡ true) (columnsOf s) (replicate 256 0) (all-of (columnsOf s) (λ c i. meaning-known c)) (all-same (λ x. known x ≡ true) 256 0 refl))
+
+-- and has sixteen bits
+pub row-below : (s : List ℕ) → All (λ x. x < 65536) (rowOf (columnsOf s))
+unfolding rowOf
+row-below s =
+    painted-all (λ x. x < 65536) (columnsOf s) (replicate 256 0) (all-map (λ c (b : Bounded c). meaning-below c (b .1)) (columnsOf s) (columns-bounded s))
+    (all-same (λ x. x < 65536) 256 0 (omega arith))
+
+-- subchar as a code, and its bytes
+pub sub-bytes : (b n : ℕ) → InRange (Sub b n) → (length (unpacked n b) ≡ n) × AllByte (unpacked n b) × (packed (unpacked n b) ≡ b)
+unfolding InRange
+sub-bytes b n h = (length-unpacked n b, unpacked-bytes n b (h .2), pack-unpack n b (h .3))

@@ -1,0 +1,597 @@
+-- A stored line and the line itself: the rules in numbers, one form for one line.
+use mathlib.Core.Path.{_≡_, refl, sym, ap, _∙_, subst}
+use mathlib.Core.Bool.{Bool, true, false}
+use mathlib.Core.Logic.{_⊎_, inl, inr}
+use mathlib.Core.Option.{Option, none, some}
+use mathlib.Core.List.{List, [], _∷_, map}
+use Prim.Native.Nat.{ℕ, zero, suc, _+_, _-_, _*_, _/_, _%_, _<_, _≤_}
+use native.Mathlib.Numerals.{add-one}
+use native.Mathlib.Omega.{arith}
+use lib.Dec.{ltb, leb, eqb}
+use lib.ListN.{length, take, getD, length-map}
+use borrow.Author.Tests.{eqb-true, eqb-false, eq-eqb, ne-eqb, leb-true, le-leb, lt-leb, ltb-true}
+use Rattle.lists.specs.Pick.{pick}
+use Rattle.lists.specs.Order.{All, In, firstOf, sort}
+use Rattle.lists.proofs.Order.{all-in, all-map, all-of, in-sort, sort-in, sort-length}
+use Rattle.lists.proofs.Choice.{same-test, pick-no, pick-self, both-swap}
+use Rattle.lists.proofs.First.{first-found}
+use Rattle.lists.proofs.Laws.{clash, both, both-left, both-right}
+use Rattle.table.specs.Limits.{Limits, limits}
+use Rattle.table.specs.States.{Rows, endKind}
+use Rattle.table.specs.Codes.{packed, unpacked, AllByte}
+use Rattle.table.specs.Meaning.{Line, Table, stepsOf, same, isRead, isWritten, reader, writer}
+use Rattle.table.specs.Rules.{allOf, anyOf, Keeps, t1Sizes, t5, t5Kind, t6, t7, t8, t8Byte, t9, sharesBytes, sharesPoint}
+use Rattle.table.specs.Entry.{Entry, mk, pointIn, rankIn, extraIn, rankOf, indicatorIn, entryOf, lineIn, padded, entryOk, less, readsEntry, writesEntry, readClash, writeClash, Apart, AllApart}
+use Rattle.table.specs.Memory.{entries, sorted, sub1In, recordOf, Form, Proper, ProperLine}
+use Rattle.table.specs.Search.{readsCode, writesPoint, foundOf, readOf, writeOf, readTaken, writeTaken}
+use Rattle.table.specs.Valid.{lineOk, Kept}
+use Rattle.table.specs.declared.valid.Record.{Record}
+use Rattle.table.specs.declared.store.Found.{Found}
+use Rattle.table.specs.declared.store.Found.the-variants.{Hit, Nothing}
+use Rattle.table.proofs.EntryLaws.{read-sym, write-sym}
+use Rattle.table.proofs.Sorted.{sorted-rising, sorted-apart}
+use Rattle.table.proofs.StoreLaws.{held-is, read-sorted, write-sorted}
+use Rattle.table.proofs.Packing.{length-unpacked, unpacked-bytes, unpack, pack-unpack, pack-one-way, packed-padded}
+
+-- the rank of an entry of the form
+pub ok-rank : (e : Entry) → entryOk e ≡ true → rankIn (e .info) ≤ 3
+unfolding entryOk
+ok-rank e h = leb-true (rankIn (e .info)) 3 (both-left _ _ h)
+
+pub ok-padded : (e : Entry) → entryOk e ≡ true → padded (extraIn (e .info) + 1) (e .bits) ≡ true
+unfolding entryOk
+ok-padded e h = both-right (leb (rankIn (e .info)) 3) _ h
+
+-- the rules of a stored line by its numbers
+module _ (e : Entry) where
+  abbrev rank : ℕ
+  rank = rankIn (e .info)
+
+  abbrev extra : ℕ
+  extra = extraIn (e .info)
+
+  abbrev bytes : List ℕ
+  bytes = unpacked (extra + 1) (e .bits)
+
+  -- indicators by rank
+  two-at : rank ≡ 3 → indicatorIn rank ≡ 2
+  two-at h = rw h
+
+  not-two : rank ≤ 3 → (rank ≡ 3 → ⊥) → eqb (indicatorIn rank) 2 ≡ false
+  not-two h d = go (eqb rank 0) refl (eqb rank 1) refl (eqb rank 2) refl
+    where
+      go : (x : Bool) → eqb rank 0 ≡ x → (y : Bool) → eqb rank 1 ≡ y → (z : Bool) → eqb rank 2 ≡ z → eqb (pick x 0 (pick y 3 (pick z 1 2))) 2 ≡ false
+      go true p y q z r = refl
+      go false p true q z r = refl
+      go false p false q true r = refl
+      go false p false q false r = absurd (let a = eqb-false rank 0 p in let b = eqb-false rank 1 q in let c = eqb-false rank 2 r in omega arith)
+
+  -- T5
+  module _ (step : Rows) (min max : ℕ) where
+    pub t5-two : rank ≡ 3 → t5 step min max (lineIn e) ≡ true
+    unfolding lineIn
+    t5-two h = rw (two-at h)
+
+    pub t5-other : rank ≤ 3 → (rank ≡ 3 → ⊥) → t5 step min max (lineIn e) ≡ pick (leb min (extra + 1)) (pick (leb (extra + 1) max) (t5Kind (pointIn (e .info)) (endKind step 0 bytes)) false) false
+    unfolding lineIn
+    t5-other h d = rw (not-two h d, length-unpacked (extra + 1) (e .bits))
+
+  -- T7 and T8
+  first-byte : getD bytes 0 0 ≡ e .bits / 16777216
+  unfolding unpacked
+  first-byte = rw (add-one extra)
+
+  one-byte : leb (extra + 1) 1 ≡ eqb extra 0
+  one-byte = go (eqb extra 0) refl
+    where
+      go : (t : Bool) → eqb extra 0 ≡ t → leb (extra + 1) 1 ≡ t
+      go true p = let q = eqb-true extra 0 p in le-leb (extra + 1) 1 (omega arith)
+      go false p = let q = eqb-false extra 0 p in lt-leb (extra + 1) 1 (omega arith)
+
+  unread : rank ≤ 3 → (rank ≡ 3 → ⊥) → leb 2 (indicatorIn rank) ≡ eqb rank 1
+  unread h d = go (eqb rank 0) refl (eqb rank 1) refl (eqb rank 2) refl
+    where
+      go : (x : Bool) → eqb rank 0 ≡ x → (y : Bool) → eqb rank 1 ≡ y → (z : Bool) → eqb rank 2 ≡ z → leb 2 (pick x 0 (pick y 3 (pick z 1 2))) ≡ y
+      go true p true q z r = absurd (let a = eqb-true rank 0 p in let b = eqb-true rank 1 q in omega arith)
+      go true p false q z r = refl
+      go false p true q z r = refl
+      go false p false q true r = refl
+      go false p false q false r = absurd (let a = eqb-false rank 0 p in let b = eqb-false rank 1 q in let c = eqb-false rank 2 r in omega arith)
+
+  same-one : (n v b : ℕ) → same (unpacked (n + 1) v) (b ∷ []) ≡ pick (eqb n 0) (eqb (v / 16777216) b) false
+  unfolding same unpacked
+  same-one zero v b = pick-self (eqb (v / 16777216) b)
+  same-one (suc n) v b = rw (add-one (suc n), ne-eqb (suc n) 0 (λ e. omega arith)) (pick-no (eqb (v / 16777216) b))
+
+  t8-byte : (sub1 : ℕ) → t8Byte (sub1In sub1) bytes ≡ pick (eqb sub1 0) false (pick (eqb extra 0) (eqb (e .bits / 16777216) (sub1 - 1)) false)
+  t8-byte sub1 = go (eqb sub1 0)
+    where
+      go : (t : Bool) → t8Byte (pick t none (some (sub1 - 1))) bytes ≡ pick t false (pick (eqb extra 0) (eqb (e .bits / 16777216) (sub1 - 1)) false)
+      go true = refl
+      go false = same-one extra (e .bits) (sub1 - 1)
+
+  rest-two : (sub1 : ℕ) → rank ≡ 3 → pick (t7 (lineIn e)) (t8 (sub1In sub1) (lineIn e)) false ≡ pick (eqb sub1 0) false (pick (eqb extra 0) (eqb (e .bits / 16777216) (sub1 - 1)) false)
+  unfolding lineIn
+  rest-two sub1 h = rw (two-at h) (t8-byte sub1)
+
+  rest-other : (sub1 : ℕ) → rank ≤ 3 → (rank ≡ 3 → ⊥)
+      → pick (t7 (lineIn e)) (t8 (sub1In sub1) (lineIn e)) false ≡ pick (eqb rank 1) true (pick (eqb extra 0) true (pick (eqb (e .bits / 16777216) 0) false true))
+  unfolding lineIn
+  rest-other sub1 h d = rw (not-two h d, length-unpacked (extra + 1) (e .bits), one-byte, unread h d, first-byte) (pick-self (pick (eqb rank 1) true (pick (eqb extra 0) true (pick (eqb (e .bits / 16777216) 0) false true))))
+
+  pub rest-is : (sub1 : ℕ) → entryOk e ≡ true → pick (t7 (lineIn e)) (t8 (sub1In sub1) (lineIn e)) false
+      ≡ pick (eqb rank 3) (pick (eqb sub1 0) false (pick (eqb extra 0) (eqb (e .bits / 16777216) (sub1 - 1)) false))
+      (pick (eqb rank 1) true (pick (eqb extra 0) true (pick (eqb (e .bits / 16777216) 0) false true)))
+  rest-is sub1 h = go (eqb rank 3) refl
+    where
+      go : (t : Bool) → eqb rank 3 ≡ t → pick (t7 (lineIn e)) (t8 (sub1In sub1) (lineIn e)) false
+          ≡ pick t (pick (eqb sub1 0) false (pick (eqb extra 0) (eqb (e .bits / 16777216) (sub1 - 1)) false))
+          (pick (eqb rank 1) true (pick (eqb extra 0) true (pick (eqb (e .bits / 16777216) 0) false true)))
+      go true p = rest-two sub1 (eqb-true rank 3 p)
+      go false p = rest-other sub1 (ok-rank e h) (eqb-false rank 3 p)
+
+-- a stored line by its tests in the order of the code
+module _ (step : Rows) (rec : Record) (e : Entry) where
+  pub line-unformed : entryOk e ≡ false → lineOk step rec e ≡ false
+  unfolding lineOk
+  line-unformed h = rw h
+
+  last-first : (a b c : Bool) → pick a (pick b c false) false ≡ pick b (pick c a false) false
+  last-first true true true = refl
+  last-first true true false = refl
+  last-first true false c = refl
+  last-first false true true = refl
+  last-first false true false = refl
+  last-first false false c = refl
+
+  pub line-formed : entryOk e ≡ true → lineOk step rec e
+      ≡ pick (t6 (record { point = pointIn (e .info); code = []; indicator = 0 }))
+      (pick (pick (t7 (lineIn e)) (t8 (sub1In (rec .subchar1)) (lineIn e)) false) (t5 step (rec .min) (rec .max) (lineIn e)) false) false
+  unfolding lineOk lineIn
+  line-formed h =
+      ap (λ (t : Bool). pick t (pick (t5 step (rec .min) (rec .max) (lineIn e)) (pick (t6 (lineIn e)) (pick (t7 (lineIn e)) (t8 (sub1In (rec .subchar1)) (lineIn e)) false) false) false) false) h
+      ∙ last-first (t5 step (rec .min) (rec .max) (lineIn e)) (t6 (lineIn e)) (pick (t7 (lineIn e)) (t8 (sub1In (rec .subchar1)) (lineIn e)) false)
+
+-- lengths of a code with zeros in its unused places
+pub padded-length : (len bits : ℕ) → padded len bits ≡ true → (1 ≤ len) × (len ≤ 4)
+unfolding padded
+padded-length len v h = go (eqb len 1) refl (eqb len 2) refl (eqb len 3) refl h
+  where
+    go : (x : Bool) → eqb len 1 ≡ x → (y : Bool) → eqb len 2 ≡ y → (z : Bool) → eqb len 3 ≡ z
+        → pick x (eqb (v % 16777216) 0) (pick y (eqb (v % 65536) 0) (pick z (eqb (v % 256) 0) (eqb len 4))) ≡ true → (1 ≤ len) × (len ≤ 4)
+    go true p y q z r e = let n = eqb-true len 1 p in (omega arith, omega arith)
+    go false p true q z r e = let n = eqb-true len 2 q in (omega arith, omega arith)
+    go false p false q true r e = let n = eqb-true len 3 r in (omega arith, omega arith)
+    go false p false q false r e = let n = eqb-true len 4 e in (omega arith, omega arith)
+
+-- ranks and indicators
+pub rank-back : (d : ℕ) → d < 4 → indicatorIn (rankOf d) ≡ d
+rank-back d h = go (eqb d 0) refl (eqb d 3) refl (eqb d 1) refl
+  where
+    go : (x : Bool) → eqb d 0 ≡ x → (y : Bool) → eqb d 3 ≡ y → (z : Bool) → eqb d 1 ≡ z → indicatorIn (pick x 0 (pick y 1 (pick z 2 3))) ≡ d
+    go true p y q z r = sym (eqb-true d 0 p)
+    go false p true q z r = sym (eqb-true d 3 q)
+    go false p false q true r = sym (eqb-true d 1 r)
+    go false p false q false r = let a = eqb-false d 0 p in let b = eqb-false d 3 q in let c = eqb-false d 1 r in omega arith
+
+rank-small : (d : ℕ) → rankOf d ≤ 3
+rank-small d = go (eqb d 0) (eqb d 3) (eqb d 1)
+  where
+    go : (x y z : Bool) → pick x 0 (pick y 1 (pick z 2 3)) ≤ 3
+    go true y z = omega arith
+    go false true z = omega arith
+    go false false true = omega arith
+    go false false false = omega arith
+
+indicator-back : (r : ℕ) → r ≤ 3 → rankOf (indicatorIn r) ≡ r
+indicator-back r h = go (eqb r 0) refl (eqb r 1) refl (eqb r 2) refl
+  where
+    go : (x : Bool) → eqb r 0 ≡ x → (y : Bool) → eqb r 1 ≡ y → (z : Bool) → eqb r 2 ≡ z → rankOf (pick x 0 (pick y 3 (pick z 1 2))) ≡ r
+    go true p y q z s = sym (eqb-true r 0 p)
+    go false p true q z s = sym (eqb-true r 1 q)
+    go false p false q true s = sym (eqb-true r 2 s)
+    go false p false q false s = let a = eqb-false r 0 p in let b = eqb-false r 1 q in let c = eqb-false r 2 s in omega arith
+
+indicator-small : (r : ℕ) → indicatorIn r < 4
+indicator-small r = go (eqb r 0) (eqb r 1) (eqb r 2)
+  where
+    go : (x y z : Bool) → pick x 0 (pick y 3 (pick z 1 2)) < 4
+    go true y z = omega arith
+    go false true z = omega arith
+    go false false true = omega arith
+    go false false false = omega arith
+
+t6-small : (l : Line) → t6 l ≡ true → l .point < 2097152
+t6-small l h = go (ltb (l .point) 0xd800) refl (ltb (l .point) 0xe000) h
+  where
+    go : (x : Bool) → ltb (l .point) 0xd800 ≡ x → (y : Bool) → pick x true (pick y false (leb (l .point) 0x10ffff)) ≡ true → l .point < 2097152
+    go true p y e = let a = ltb-true (l .point) 0xd800 p in omega arith
+    go false p true e = absurd (clash e refl)
+    go false p false e = let a = leb-true (l .point) 0x10ffff e in omega arith
+
+-- a line that can be stored: of a text, with a code of 1 to 4 bytes and a code point
+pub record GoodLine (l : Line) : Type 0 where
+  pub proper : ProperLine l
+  pub least : 1 ≤ length (l .code)
+  pub most : length (l .code) ≤ 4
+  pub point-ok : t6 l ≡ true
+
+-- the parts of what is stored
+abbrev infoFor : Line → ℕ
+infoFor l = l .point + 2097152 * rankOf (l .indicator) + 16777216 * (length (l .code) - 1)
+
+parts-of : (p r x : ℕ) → p < 2097152 → r ≤ 3 → ((p + 2097152 * r + 16777216 * x) % 2097152 ≡ p) × ((p + 2097152 * r + 16777216 * x) / 2097152 % 8 ≡ r) × ((p + 2097152 * r + 16777216 * x) / 16777216 ≡ x)
+parts-of p r x h k = (omega arith, omega arith, omega arith)
+
+module _ (l : Line) (g : GoodLine l) where
+  parts : (pointIn (infoFor l) ≡ l .point) × (rankIn (infoFor l) ≡ rankOf (l .indicator)) × (extraIn (infoFor l) ≡ length (l .code) - 1)
+  parts = parts-of (l .point) (rankOf (l .indicator)) (length (l .code) - 1) (t6-small l (g .point-ok)) (rank-small (l .indicator))
+
+  pub line-entry : lineIn (entryOf l) ≡ l
+  unfolding lineIn entryOf
+  line-entry =
+      let n : length (l .code) - 1 + 1 ≡ length (l .code) = let h = g .least in omega arith in
+      let c : unpacked (extraIn (infoFor l) + 1) (packed (l .code)) ≡ l .code =
+      ap (λ (k : ℕ). unpacked (k + 1) (packed (l .code))) (parts .2) ∙ ap (λ (k : ℕ). unpacked k (packed (l .code))) n ∙ unpack (l .code) (g .proper .bytes) (g .most) in
+      let d : indicatorIn (rankIn (infoFor l)) ≡ l .indicator = ap indicatorIn (parts .1) ∙ rank-back (l .indicator) (g .proper .digit) in
+      (λ i. record { point = parts .0 i; code = c i; indicator = d i })
+
+  pub entry-of-ok : entryOk (entryOf l) ≡ true
+  unfolding entryOk entryOf
+  entry-of-ok =
+      let n : extraIn (infoFor l) + 1 ≡ length (l .code) = let h = g .least in let q = parts .2 in omega arith in
+      both (leb (rankIn (infoFor l)) 3) _
+      (le-leb (rankIn (infoFor l)) 3 (let q = parts .1 in let h = rank-small (l .indicator) in omega arith))
+      (ap (λ (k : ℕ). padded k (packed (l .code))) n ∙ packed-padded (l .code) (g .proper .bytes) (g .least) (g .most))
+
+pub entry-line : (e : Entry) → entryOk e ≡ true → entryOf (lineIn e) ≡ e
+unfolding lineIn entryOf
+entry-line e h =
+    let b : packed (unpacked (extraIn (e .info) + 1) (e .bits)) ≡ e .bits = pack-unpack (extraIn (e .info) + 1) (e .bits) (ok-padded e h) in
+    let r : rankOf (indicatorIn (rankIn (e .info))) ≡ rankIn (e .info) = indicator-back (rankIn (e .info)) (ok-rank e h) in
+    let n : length (unpacked (extraIn (e .info) + 1) (e .bits)) ≡ extraIn (e .info) + 1 = length-unpacked (extraIn (e .info) + 1) (e .bits) in
+    let i : pointIn (e .info) + 2097152 * rankOf (indicatorIn (rankIn (e .info))) + 16777216 * (length (unpacked (extraIn (e .info) + 1) (e .bits)) - 1) ≡ e .info = rw (r, n) (whole (e .info)) in
+    (λ t. mk (b t) (i t))
+  where
+    whole : (v : ℕ) → v % 2097152 + 2097152 * (v / 2097152 % 8) + 16777216 * (v / 16777216 + 1 - 1) ≡ v
+    whole v = omega arith
+
+-- a stored line of the form whose bytes are bytes
+pub good-stored : (e : Entry) → entryOk e ≡ true → e .bits < 4294967296 → t6 (lineIn e) ≡ true → GoodLine (lineIn e)
+unfolding lineIn
+good-stored e h b p =
+    let n = padded-length (extraIn (e .info) + 1) (e .bits) (ok-padded e h) in
+    let q = length-unpacked (extraIn (e .info) + 1) (e .bits) in
+    record {
+      proper = record { bytes = unpacked-bytes (extraIn (e .info) + 1) (e .bits) b; digit = indicator-small (rankIn (e .info)) };
+      least = omega (arith, n .0);
+      most = omega (arith, n .1);
+      point-ok = p;
+    }
+
+-- the same bytes
+pub same-is : (s t : List ℕ) → same s t ≡ true → s ≡ t
+unfolding same
+same-is [] [] h = refl
+same-is [] (b ∷ t) h = absurd (clash h refl)
+same-is (a ∷ s) [] h = absurd (clash h refl)
+same-is (a ∷ s) (b ∷ t) h =
+    let p : a ≡ b = eqb-true a b (both-left (eqb a b) (same s t) h) in
+    (λ i. p i ∷ same-is s t (both-right (eqb a b) (same s t) h) i)
+
+pub is-same : (s : List ℕ) → same s s ≡ true
+unfolding same
+is-same [] = refl
+is-same (a ∷ s) = both (eqb a a) (same s s) (eq-eqb a a refl) (is-same s)
+
+-- a code of a line against a code of as many bytes as can be stored
+module _ (s t : List ℕ) (ps : AllByte s) (pt : AllByte t) (ls : 1 ≤ length s) (ms : length s ≤ 4) (lt : 1 ≤ length t) where
+  pub same-packed : same s t ≡ pick (eqb (packed s) (packed t)) (eqb (length s - 1) (length t - 1)) false
+  same-packed = same-test (same s t) (pick (eqb (packed s) (packed t)) (eqb (length s - 1) (length t - 1)) false) there back
+    where
+      there : same s t ≡ true → pick (eqb (packed s) (packed t)) (eqb (length s - 1) (length t - 1)) false ≡ true
+      there h =
+          let e = same-is s t h in
+          both _ _ (eq-eqb (packed s) (packed t) (ap packed e)) (eq-eqb (length s - 1) (length t - 1) (ap (λ (l : List ℕ). length l - 1) e))
+
+      back : pick (eqb (packed s) (packed t)) (eqb (length s - 1) (length t - 1)) false ≡ true → same s t ≡ true
+      back h =
+          let p = eqb-true (packed s) (packed t) (both-left (eqb (packed s) (packed t)) _ h) in
+          let n = eqb-true (length s - 1) (length t - 1) (both-right (eqb (packed s) (packed t)) _ h) in
+          subst (λ (l : List ℕ). same s l ≡ true) (pack-one-way s t ps pt (omega arith) ms p) (is-same s)
+
+-- which lines are read and which are written, by rank
+reads-rank : (d : ℕ) → d < 4 → leb (rankOf d) 1 ≡ pick (eqb d 0) true (eqb d 3)
+reads-rank d h = go (eqb d 0) (eqb d 3) (eqb d 1)
+  where
+    go : (x y z : Bool) → leb (pick x 0 (pick y 1 (pick z 2 3))) 1 ≡ pick x true y
+    go true y z = refl
+    go false true z = refl
+    go false false true = refl
+    go false false false = refl
+
+writes-rank : (d : ℕ) → d < 4 → pick (eqb (rankOf d) 1) false true ≡ pick (eqb d 3) false true
+writes-rank d h = go (eqb d 0) refl (eqb d 3) refl (eqb d 1)
+  where
+    go : (x : Bool) → eqb d 0 ≡ x → (y : Bool) → eqb d 3 ≡ y → (z : Bool) → pick (eqb (pick x 0 (pick y 1 (pick z 2 3))) 1) false true ≡ pick y false true
+    go true p true q z = absurd (let a = eqb-true d 0 p in let b = eqb-true d 3 q in omega arith)
+    go true p false q z = refl
+    go false p true q z = refl
+    go false p false q true = refl
+    go false p false q false = refl
+
+module _ (l : Line) (g : GoodLine l) where
+  pub entry-bits : entryOf l .bits ≡ packed (l .code)
+  unfolding entryOf
+  entry-bits = refl
+
+  pub entry-point : pointIn (entryOf l .info) ≡ l .point
+  unfolding entryOf
+  entry-point = parts l g .0
+
+  pub entry-extra : extraIn (entryOf l .info) ≡ length (l .code) - 1
+  unfolding entryOf
+  entry-extra = parts l g .2
+
+  pub entry-reads : readsEntry (entryOf l) ≡ isRead l
+  unfolding entryOf
+  entry-reads = ap (λ (k : ℕ). leb k 1) (parts l g .1) ∙ reads-rank (l .indicator) (g .proper .digit)
+
+  pub entry-writes : writesEntry (entryOf l) ≡ isWritten l
+  unfolding entryOf
+  entry-writes = ap (λ (k : ℕ). pick (eqb k 1) false true) (parts l g .1) ∙ writes-rank (l .indicator) (g .proper .digit)
+
+-- T9 on lines and on what is stored
+four-shift : (p q r s : Bool) → pick r (pick s (pick p q false) false) false ≡ pick p (pick q (pick r s false) false) false
+four-shift true true true true = refl
+four-shift true true true false = refl
+four-shift true true false s = refl
+four-shift true false true true = refl
+four-shift true false true false = refl
+four-shift true false false s = refl
+four-shift false q true true = refl
+four-shift false q true false = refl
+four-shift false q false s = refl
+
+three-shift : (p r s : Bool) → pick r (pick s p false) false ≡ pick p (pick r s false) false
+three-shift true true true = refl
+three-shift true true false = refl
+three-shift true false s = refl
+three-shift false true true = refl
+three-shift false true false = refl
+three-shift false false s = refl
+
+module _ (a b : Line) (g : GoodLine a) (h : GoodLine b) where
+  pub shares-bytes : sharesBytes a b ≡ readClash (entryOf a) (entryOf b)
+  unfolding readClash
+  shares-bytes =
+      (λ t. pick (isRead a) (pick (isRead b) (same-packed (a .code) (b .code) (g .proper .bytes) (h .proper .bytes) (g .least) (g .most) (h .least) t) false) false)
+      ∙ four-shift (eqb (packed (a .code)) (packed (b .code))) (eqb (length (a .code) - 1) (length (b .code) - 1)) (isRead a) (isRead b)
+      ∙ sym (λ t. pick (eqb (entry-bits a g t) (entry-bits b h t)) (pick (eqb (entry-extra a g t) (entry-extra b h t)) (pick (entry-reads a g t) (entry-reads b h t) false) false) false)
+
+  pub shares-point : sharesPoint a b ≡ writeClash (entryOf a) (entryOf b)
+  unfolding writeClash
+  shares-point =
+      three-shift (eqb (a .point) (b .point)) (isWritten a) (isWritten b)
+      ∙ sym (λ t. pick (eqb (entry-point a g t) (entry-point b h t)) (pick (entry-writes a g t) (entry-writes b h t) false) false)
+
+-- T9 of a list of lines is that no two of the stored ones clash
+either-left : (a b : Bool) → pick a true b ≡ false → a ≡ false
+either-left true b h = h
+either-left false b h = refl
+
+either-right : (a b : Bool) → pick a true b ≡ false → b ≡ false
+either-right true b h = absurd (clash refl h)
+either-right false b h = h
+
+if-not : (a b : Bool) → pick a false b ≡ true → (a ≡ false) × (b ≡ true)
+if-not true b h = absurd (clash h refl)
+if-not false b h = (refl, h)
+
+neither : (a b : Bool) → a ≡ false → b ≡ false → pick a true b ≡ false
+neither a b p q = rw (p, q)
+
+apart-line : (l : Line) (ls : List Line) → GoodLine l → All GoodLine ls → anyOf (λ x. sharesBytes x l) ls ≡ false → anyOf (λ x. sharesPoint x l) ls ≡ false → All (Apart (entryOf l)) (map entryOf ls)
+unfolding anyOf
+apart-line l [] g gs p q = tt
+apart-line l (x ∷ ls) g gs p q =
+    let p1 = either-left (sharesBytes x l) (anyOf (λ y. sharesBytes y l) ls) p in
+    let q1 = either-left (sharesPoint x l) (anyOf (λ y. sharesPoint y l) ls) q in (
+      (read-sym (entryOf x) (entryOf l) (sym (shares-bytes x l (gs .0) g) ∙ p1), write-sym (entryOf x) (entryOf l) (sym (shares-point x l (gs .0) g) ∙ q1)),
+      apart-line l ls g (gs .1) (either-right (sharesBytes x l) (anyOf (λ y. sharesBytes y l) ls) p) (either-right (sharesPoint x l) (anyOf (λ y. sharesPoint y l) ls) q),
+    )
+
+line-apart : (l : Line) (ls : List Line) → GoodLine l → All GoodLine ls → All (Apart (entryOf l)) (map entryOf ls) → (anyOf (λ x. sharesBytes x l) ls ≡ false) × (anyOf (λ x. sharesPoint x l) ls ≡ false)
+unfolding anyOf
+line-apart l [] g gs a = (refl, refl)
+line-apart l (x ∷ ls) g gs a =
+    let r = line-apart l ls g (gs .1) (a .1) in (
+      neither (sharesBytes x l) (anyOf (λ y. sharesBytes y l) ls) (shares-bytes x l (gs .0) g ∙ read-sym (entryOf l) (entryOf x) (a .0 .0)) (r .0),
+      neither (sharesPoint x l) (anyOf (λ y. sharesPoint y l) ls) (shares-point x l (gs .0) g ∙ write-sym (entryOf l) (entryOf x) (a .0 .1)) (r .1),
+    )
+
+pub t9-apart : (ls : List Line) → All GoodLine ls → t9 ls ≡ true → AllApart (map entryOf ls)
+unfolding t9
+t9-apart [] gs h = tt
+t9-apart (l ∷ ls) gs h =
+    let b = anyOf (λ x. sharesBytes x l) ls in
+    let p = anyOf (λ x. sharesPoint x l) ls in
+    let h1 = if-not b (pick p false (t9 ls)) h in
+    let h2 = if-not p (t9 ls) (h1 .1) in
+    (apart-line l ls (gs .0) (gs .1) (h1 .0) (h2 .0), t9-apart ls (gs .1) (h2 .1))
+
+pub apart-t9 : (ls : List Line) → All GoodLine ls → AllApart (map entryOf ls) → t9 ls ≡ true
+unfolding t9
+apart-t9 [] gs h = refl
+apart-t9 (l ∷ ls) gs h =
+    let r = line-apart l ls (gs .0) (gs .1) (h .0) in
+    rw (r .0, r .1) (apart-t9 ls (gs .1) (h .1))
+
+-- a test of every element
+pub all-true : {A : Type 0} (f : A → Bool) (l : List A) → allOf f l ≡ true → All (λ x. f x ≡ true) l
+unfolding allOf
+all-true f [] h = tt
+all-true f (x ∷ l) h = (both-left (f x) (allOf f l) h, all-true f l (both-right (f x) (allOf f l) h))
+
+pub true-all : {A : Type 0} (f : A → Bool) (l : List A) → All (λ x. f x ≡ true) l → allOf f l ≡ true
+unfolding allOf
+true-all f [] h = refl
+true-all f (x ∷ l) h = both (f x) (allOf f l) (h .0) (true-all f l (h .1))
+
+-- lines of a table that keeps the rules can be stored
+sizes-parts : (min max : ℕ) → t1Sizes min max ≡ true → (1 ≤ min) × (min ≤ max) × (max ≤ 4)
+sizes-parts min max h =
+    let h1 = both-right (leb 1 min) _ h in
+    (leb-true 1 min (both-left (leb 1 min) _ h), leb-true min max (both-left (leb min max) _ h1), leb-true max 4 (both-right (leb min max) _ h1))
+
+two-length : (sub1 : Option ℕ) (c : List ℕ) → t8Byte sub1 c ≡ true → length c ≡ 1
+two-length none c h = absurd (clash h refl)
+two-length (some b) c h = ap (λ (l : List ℕ). length l) (same-is c (b ∷ []) h)
+
+line-length : (step : Rows) (min max : ℕ) (sub1 : Option ℕ) (l : Line) → t1Sizes min max ≡ true → t5 step min max l ≡ true → t8 sub1 l ≡ true → (1 ≤ length (l .code)) × (length (l .code) ≤ 4)
+line-length step min max sub1 l s h k = go (eqb (l .indicator) 2) h k
+  where
+    go : (t : Bool) → pick t true (pick (leb min (length (l .code))) (pick (leb (length (l .code)) max) (t5Kind (l .point) (endKind step 0 (l .code))) false) false) ≡ true
+        → pick t (t8Byte sub1 (l .code)) true ≡ true → (1 ≤ length (l .code)) × (length (l .code) ≤ 4)
+    go true p q = let n = two-length sub1 (l .code) q in (omega arith, omega arith)
+    go false p q =
+        let m = sizes-parts min max s in
+        let lo = leb-true min (length (l .code)) (both-left (leb min (length (l .code))) _ p) in
+        let p1 = both-right (leb min (length (l .code))) _ p in
+        let hi = leb-true (length (l .code)) max (both-left (leb (length (l .code)) max) _ p1) in
+        (omega (arith, m .0), omega (arith, m .2))
+
+pub keeps-good : (lim : Limits) (t : Table) → Proper t → Keeps lim t → All GoodLine (t .lines)
+keeps-good lim t p k =
+    all-of (t .lines) (λ l i.
+    let n = line-length (stepsOf t) (t .min) (t .max) (t .subchar1) l (k .rule1-sizes)
+    (all-in (λ x. t5 (stepsOf t) (t .min) (t .max) x ≡ true) l (t .lines) (all-true (t5 (stepsOf t) (t .min) (t .max)) (t .lines) (k .rule5)) i)
+    (all-in (λ x. t8 (t .subchar1) x ≡ true) l (t .lines) (all-true (t8 (t .subchar1)) (t .lines) (k .rule8)) i) in
+    record {
+      proper = all-in ProperLine l (t .lines) (p .lines-proper) i;
+      least = n .0;
+      most = n .1;
+      point-ok = all-in (λ x. t6 x ≡ true) l (t .lines) (all-true t6 (t .lines) (k .rule6)) i;
+    })
+
+-- the line that is found, as it is stored
+abbrev pub foundLine : Option Line → Found
+foundLine none = Nothing
+foundLine (some l) = Hit (entryOf l .bits) (entryOf l .info)
+
+found-by : (b : Bool) (l : Line) (o : Option Entry) (q : Option Line) → foundOf o ≡ foundLine q → foundOf (pick b (some (entryOf l)) o) ≡ foundLine (pick b (some l) q)
+unfolding foundOf
+found-by true l o q e = refl
+found-by false l o q e = e
+
+pub found-lines : (f : Entry → Bool) (g : Line → Bool) (ls : List Line) → All (λ l. f (entryOf l) ≡ g l) ls → foundOf (firstOf f (map entryOf ls)) ≡ foundLine (firstOf g ls)
+unfolding firstOf foundOf
+found-lines f g [] h = refl
+found-lines f g (l ∷ ls) h =
+    ap (λ (b : Bool). foundOf (pick b (some (entryOf l)) (firstOf f (map entryOf ls)))) (h .0)
+    ∙ found-by (g l) l (firstOf f (map entryOf ls)) (firstOf g ls) (found-lines f g ls (h .1))
+
+read-shift : (p q r : Bool) → pick p (pick q r false) false ≡ pick r (pick p q false) false
+read-shift true true true = refl
+read-shift true true false = refl
+read-shift true false true = refl
+read-shift true false false = refl
+read-shift false q true = refl
+read-shift false q false = refl
+
+module _ (l : Line) (g : GoodLine l) where
+  reads-line : (c : List ℕ) → AllByte c → 1 ≤ length c → readsCode (packed c) (length c - 1) (entryOf l) ≡ pick (isRead l) (same (l .code) c) false
+  unfolding readsCode
+  reads-line c a h =
+      (λ t. pick (eqb (entry-bits l g t) (packed c)) (pick (eqb (entry-extra l g t) (length c - 1)) (entry-reads l g t) false) false)
+      ∙ read-shift (eqb (packed (l .code)) (packed c)) (eqb (length (l .code) - 1) (length c - 1)) (isRead l)
+      ∙ sym (λ t. pick (isRead l) (same-packed (l .code) c (g .proper .bytes) a (g .least) (g .most) h t) false)
+
+  writes-line : (u : ℕ) → writesPoint u (entryOf l) ≡ pick (isWritten l) (eqb (l .point) u) false
+  unfolding writesPoint
+  writes-line u = (λ t. pick (eqb (entry-point l g t) u) (entry-writes l g t) false) ∙ both-swap (eqb (l .point) u) (isWritten l)
+
+-- some line of a list, by those that are stored
+any-in : {A : Type 0} (f : A → Bool) (l : List A) → anyOf f l ≡ true → (x : A) × (In x l × (f x ≡ true))
+unfolding anyOf
+any-in f [] h = absurd (clash h refl)
+any-in {A} f (x ∷ l) h = go (f x) refl (any-in f l) h
+  where
+    go : (t : Bool) → f x ≡ t → (anyOf f l ≡ true → (y : A) × (In y l × (f y ≡ true))) → pick t true (anyOf f l) ≡ true → (y : A) × (In y (x ∷ l) × (f y ≡ true))
+    go true p ih q = (x, (inl refl, p))
+    go false p ih q = let r = ih q in (r .0, (inr (r .1 .0), r .1 .1))
+
+in-any : {A : Type 0} (f : A → Bool) (x : A) (l : List A) → In x l → f x ≡ true → anyOf f l ≡ true
+unfolding anyOf
+in-any f x [] i h = absurd i
+in-any {A} f x (y ∷ l) (inl e) h = ap (λ (t : Bool). pick t true (anyOf f l)) (subst (λ (z : A). f z ≡ true) e h)
+in-any f x (y ∷ l) (inr i) h = go (f y) (in-any f x l i h)
+  where
+    go : (t : Bool) → anyOf f l ≡ true → pick t true (anyOf f l) ≡ true
+    go true q = refl
+    go false q = q
+
+any-sorted : (f : Entry → Bool) (l : List Entry) → anyOf f (sort less l) ≡ anyOf f l
+any-sorted f l =
+    same-test (anyOf f (sort less l)) (anyOf f l)
+    (λ h. let r = any-in f (sort less l) h in in-any f (r .0) l (sort-in less (r .0) l (r .1 .0)) (r .1 .1))
+    (λ h. let r = any-in f l h in in-any f (r .0) (sort less l) (in-sort less (r .0) l (r .1 .0)) (r .1 .1))
+
+any-lines : (f : Entry → Bool) (g : Line → Bool) (ls : List Line) → All (λ l. f (entryOf l) ≡ g l) ls → anyOf f (map entryOf ls) ≡ anyOf g ls
+unfolding anyOf
+any-lines f g [] h = refl
+any-lines f g (l ∷ ls) h = (λ t. pick (h .0 t) true (any-lines f g ls (h .1) t))
+
+-- a new line clashes with a stored one exactly when it does with a line
+module _ (l : Line) (ls : List Line) (g : GoodLine l) (gs : All GoodLine ls) where
+  pub read-taken-lines : readTaken (entryOf l) (sorted ls) ≡ anyOf (λ x. sharesBytes x l) ls
+  unfolding readTaken
+  read-taken-lines =
+      any-sorted (λ x. readClash x (entryOf l)) (map entryOf ls)
+      ∙ any-lines (λ x. readClash x (entryOf l)) (λ x. sharesBytes x l) ls (all-map (λ x h. sym (shares-bytes x l h g)) ls gs)
+
+  pub write-taken-lines : writeTaken (entryOf l) (sorted ls) ≡ anyOf (λ x. sharesPoint x l) ls
+  unfolding writeTaken
+  write-taken-lines =
+      any-sorted (λ x. writeClash x (entryOf l)) (map entryOf ls)
+      ∙ any-lines (λ x. writeClash x (entryOf l)) (λ x. sharesPoint x l) ls (all-map (λ x h. sym (shares-point x l h g)) ls gs)
+
+-- what a memory in a table's form holds
+module _ (t : Table) (p : Proper t) (k : Keeps limits t) (rec : Record) (states codes infos order : List ℕ) (f : Form limits t rec states codes infos order) where
+  good : All GoodLine (t .lines)
+  good = keeps-good limits t p k
+
+  pub lines-apart : AllApart (map entryOf (t .lines))
+  lines-apart = t9-apart (t .lines) good (k .rule9)
+
+  pub form-count : length (sorted (t .lines)) ≡ rec .mappings
+  unfolding recordOf
+  form-count = sort-length less (map entryOf (t .lines)) ∙ length-map (t .lines) entryOf ∙ sym (ap (λ (r : Record). r .mappings) (f .record-is))
+
+  abbrev pub form-kept : Kept 2048 (rec .mappings) codes infos order
+  form-kept = record {
+    es = sorted (t .lines);
+    count = form-count;
+    rising = sorted-rising (map entryOf (t .lines)) lines-apart;
+    apart = sorted-apart (map entryOf (t .lines)) lines-apart;
+    stored = f .mappings-are;
+  }
+
+  pub form-held : entries (take (rec .mappings) codes) (take (rec .mappings) infos) ≡ sorted (t .lines)
+  form-held = held-is 2048 (rec .mappings) codes infos order form-kept
+
+  pub reads-stored : (c : List ℕ) → AllByte c → 1 ≤ length c → readOf (packed c) (length c - 1) (entries (take (rec .mappings) codes) (take (rec .mappings) infos)) ≡ foundLine (reader c (t .lines))
+  reads-stored c a h =
+      ap (readOf (packed c) (length c - 1)) form-held
+      ∙ read-sorted (packed c) (length c - 1) (map entryOf (t .lines)) lines-apart
+      ∙ found-lines (readsCode (packed c) (length c - 1)) (λ l. pick (isRead l) (same (l .code) c) false) (t .lines) (all-map (λ l g. reads-line l g c a h) (t .lines) good)
+
+  pub writes-stored : (u : ℕ) → writeOf u (entries (take (rec .mappings) codes) (take (rec .mappings) infos)) ≡ foundLine (writer u (t .lines))
+  writes-stored u =
+      ap (writeOf u) form-held
+      ∙ write-sorted u (map entryOf (t .lines)) lines-apart
+      ∙ found-lines (writesPoint u) (λ l. pick (isWritten l) (eqb (l .point) u) false) (t .lines) (all-map (λ l g. writes-line l g u) (t .lines) good)
+
+-- the line that reads a code keeps a rule that all lines keep
+pub reader-keeps : (rule : Line → Bool) (code : List ℕ) (ls : List Line) (l : Line) → allOf rule ls ≡ true → reader code ls ≡ some l → rule l ≡ true
+reader-keeps rule code ls l ok e = all-in (λ x. rule x ≡ true) l ls (all-true rule ls ok) (first-found _ l ls e .0)

@@ -1,0 +1,334 @@
+-- Behind CHARMAP: the conditions on a mapping by its numbers, and what one mapping more leaves in memory.
+use Prim.Native.Nat.{ℕ, _+_, _-_, _*_, _/_, _<_, _≤_}
+use mathlib.Core.Path.{_≡_, refl, sym, ap, subst, _∙_}
+use mathlib.Core.Bool.{Bool, true, false, not}
+use mathlib.Core.Option.{none, some}
+use mathlib.Core.List.{List, [], _∷_, _++_, map}
+use native.Mathlib.Omega.{arith}
+use lib.Dec.{leb, eqb}
+use lib.ListN.{length, getD, take, drop, length-map}
+use borrow.Author.Tests.{le-leb, lt-leb, eq-eqb, ne-eqb}
+use Rattle.lists.specs.Pick.{pick}
+use Rattle.lists.specs.Order.{All, insert, sort}
+use Rattle.lists.proofs.Cases.{pick-yes, pick-no}
+use Rattle.lists.proofs.Choice.{pick-self, pick-no as never}
+use Rattle.lists.proofs.Chains.{bar}
+use Rattle.lists.proofs.Front.{drop-put}
+use Rattle.lists.proofs.Order.{all-map, insert-length, sort-length}
+use Rattle.table.specs.Limits.{limits}
+use Rattle.table.specs.States.{Rows, stepAt, endKind}
+use Rattle.table.specs.Codes.{packed, unpacked, AllByte}
+use Rattle.table.specs.Meaning.{Line, flat, same}
+use Rattle.table.specs.Rules.{anyOf, t5, t5Kind, t6, t7, t8, t8Byte, t9, sharesBytes, sharesPoint}
+use Rattle.table.specs.Entry.{Entry, mk, bitsOf, infoOf, rankOf, entryOf, less, readClash, writeClash, AllApart}
+use Rattle.table.specs.Memory.{entries, sorted, orderOf, sub1In, Stored}
+use Rattle.table.specs.Search.{readTaken, writeTaken}
+use Rattle.table.specs.Valid.{Kept}
+use Rattle.table.specs.Numbers.{cond, lowest, n20, n21, n22, n23, n24, n25, n26, mappingConditions}
+use Rattle.table.specs.Load.{judged, reading, lineAs}
+use Rattle.table.specs.Progress.{GoodLine, Holding, Taken, progress}
+use Rattle.table.specs.declared.header.Head.{Head}
+use Rattle.table.specs.declared.load.Refusal.{Refusal}
+use Rattle.table.specs.declared.load.Refusal.the-variants.{NoScalar, NoSuchCode, LeadingZero, NoSubchar1, BytesTaken, PointTaken, TooMany}
+use Rattle.table.specs.declared.load.Verdict.{Verdict}
+use Rattle.table.specs.declared.load.Verdict.the-variants.{Fine, Refuse}
+use Rattle.table.specs.declared.load.Phase.the-variants.{Mappings}
+use Rattle.table.specs.declared.load.Went.the-variants as outcome
+use Rattle.table.proofs.Packing.{packed-fits, unpack}
+use Rattle.table.proofs.Sorted.{order-length, sorted-rising, sorted-apart}
+use Rattle.table.proofs.Inserted.{free-next, next-held, sorted-more}
+use Rattle.table.proofs.StoreLaws.{held-is}
+use Rattle.table.proofs.LineLaws.{GoodLine as Storable, shares-bytes, shares-point, t9-apart, entry-point}
+use Rattle.table.proofs.HeaderLaws.{lowest-none}
+use Rattle.table.proofs.LineSteps.{fine-taken}
+use Rattle.table.proofs.HeaderSteps.{steps-held}
+
+-- 20 to 23 by T6, T5, T7, T8
+abbrev verdictOf : Bool → Bool → Bool → Bool → Verdict
+verdictOf a b c d = pick (not a) (Refuse NoScalar) (pick (not b) (Refuse NoSuchCode) (pick (not c) (Refuse LeadingZero) (pick (not d) (Refuse NoSubchar1) Fine)))
+
+abbrev pub ownVerdict : Rows → Head → Line → Verdict
+ownVerdict step h l = lowest (cond NoScalar (n20 l) ∷ cond NoSuchCode (not (t5 step (h .min) (h .max) l)) ∷ cond LeadingZero (n22 l) ∷ cond NoSubchar1 (n23 h l) ∷ [])
+
+own-is : (step : Rows) (h : Head) (l : Line) → ownVerdict step h l ≡ verdictOf (t6 l) (t5 step (h .min) (h .max) l) (t7 l) (t8 (sub1In (h .sub1)) l)
+unfolding lowest n20 n22 n23
+own-is step h l = refl
+
+-- the first byte of a code is on top
+first-byte : (c : List ℕ) → AllByte c → packed c / 16777216 ≡ getD c 0 0
+unfolding packed AllByte
+first-byte [] a = refl
+first-byte (b ∷ s) a = let h = packed-fits s (a .1) in omega arith
+
+-- a code against one byte
+same-one : (c : List ℕ) (b : ℕ) → AllByte c → same c (b ∷ []) ≡ pick (eqb (length c) 1) (eqb (packed c / 16777216) b) false
+unfolding same
+same-one [] b a = refl
+same-one (x ∷ []) b a = pick-self (eqb x b) ∙ ap (λ (y : ℕ). eqb y b) (sym (first-byte (x ∷ []) a))
+same-one (x ∷ y ∷ s) b a = never (eqb x b) ∙ sym (pick-no (eqb (length (x ∷ y ∷ s)) 1) (eqb (packed (x ∷ y ∷ s) / 16777216) b) false (ne-eqb (length (x ∷ y ∷ s)) 1 (λ e. omega arith)))
+
+-- a mapping of a code point, a code and an indicator, where the code is held as bits and length
+module _ (step : Rows) (h : Head) (u d : ℕ) (c : List ℕ) (bits len : ℕ) (bytes : AllByte c) (eb : bits ≡ packed c) (el : len ≡ length c) where
+  abbrev line : Line
+  line = lineAs u c d
+
+  own-at : (p q r s : Bool) → t6 line ≡ p → t5 step (h .min) (h .max) line ≡ q → t7 line ≡ r → t8 (sub1In (h .sub1)) line ≡ s → verdictOf p q r s ≡ ownVerdict step h line
+  own-at p q r s ep eq er es = sym (own-is step h line ∙ (λ t. verdictOf (ep t) (eq t) (er t) (es t)))
+
+  pub own-20 : t6 line ≡ false → Refuse NoScalar ≡ ownVerdict step h line
+  own-20 e = own-at false (t5 step (h .min) (h .max) line) (t7 line) (t8 (sub1In (h .sub1)) line) e refl refl refl
+
+  -- a `|2` line
+  module _ (scalar : t6 line ≡ true) (two : d ≡ 2) where
+    by-8 : (b : Bool) → t8Byte (sub1In (h .sub1)) c ≡ b → verdictOf true true true b ≡ ownVerdict step h line
+    by-8 b e =
+        own-at true true true b scalar (pick-yes (eqb d 2) true _ (eq-eqb d 2 two)) (pick-yes (leb 2 d) true _ (le-leb 2 d (omega arith)))
+        (pick-yes (eqb d 2) (t8Byte (sub1In (h .sub1)) c) true (eq-eqb d 2 two) ∙ e)
+
+    pub own-23-none : h .sub1 ≡ 0 → Refuse NoSubchar1 ≡ ownVerdict step h line
+    own-23-none e = by-8 false (ap (λ (n : ℕ). t8Byte (sub1In n) c) e)
+
+    module _ (given : h .sub1 ≡ 0 → ⊥) where
+      byte-is : t8Byte (sub1In (h .sub1)) c ≡ pick (eqb (length c) 1) (eqb (packed c / 16777216) (h .sub1 - 1)) false
+      byte-is = ap (λ (b : Bool). t8Byte (pick b none (some (h .sub1 - 1))) c) (ne-eqb (h .sub1) 0 given) ∙ same-one c (h .sub1 - 1) bytes
+
+      pub own-23-long : (len ≡ 1 → ⊥) → Refuse NoSubchar1 ≡ ownVerdict step h line
+      own-23-long n = by-8 false (byte-is ∙ pick-no (eqb (length c) 1) _ false (ne-eqb (length c) 1 (λ e. n (el ∙ e))))
+
+      byte-one : len ≡ 1 → t8Byte (sub1In (h .sub1)) c ≡ eqb (packed c / 16777216) (h .sub1 - 1)
+      byte-one e = byte-is ∙ pick-yes (eqb (length c) 1) _ false (eq-eqb (length c) 1 (sym el ∙ e))
+
+      pub own-23-other : len ≡ 1 → (bits / 16777216 ≡ h .sub1 - 1 → ⊥) → Refuse NoSubchar1 ≡ ownVerdict step h line
+      own-23-other e n = by-8 false (byte-one e ∙ ne-eqb (packed c / 16777216) (h .sub1 - 1) (λ q. n (ap (λ (b : ℕ). b / 16777216) eb ∙ q)))
+
+      pub own-2 : len ≡ 1 → bits / 16777216 ≡ h .sub1 - 1 → Fine ≡ ownVerdict step h line
+      own-2 e q = by-8 true (byte-one e ∙ eq-eqb (packed c / 16777216) (h .sub1 - 1) (ap (λ (b : ℕ). b / 16777216) (sym eb) ∙ q))
+
+  -- the others
+  module _ (scalar : t6 line ≡ true) (other : d ≡ 2 → ⊥) where
+    by-57 : (q r : Bool) → t5 step (h .min) (h .max) line ≡ q → t7 line ≡ r → verdictOf true q r true ≡ ownVerdict step h line
+    by-57 q r eq er = own-at true q r true scalar eq er (pick-no (eqb d 2) _ true (ne-eqb d 2 other))
+
+    five : t5 step (h .min) (h .max) line ≡ pick (leb (h .min) (length c)) (pick (leb (length c) (h .max)) (t5Kind u (endKind step 0 c)) false) false
+    five = pick-no (eqb d 2) true _ (ne-eqb d 2 other)
+
+    pub own-21-long : h .max ≤ 4 → 4 < len → Refuse NoSuchCode ≡ ownVerdict step h line
+    own-21-long m n =
+        by-57 false (t7 line) (five ∙ ap (λ (b : Bool). pick (leb (h .min) (length c)) (pick b (t5Kind u (endKind step 0 c)) false) false) (lt-leb (length c) (h .max) (omega arith)) ∙ never (leb (h .min) (length c))) refl
+
+    module _ (short : len ≤ 4) (t : Bool) (is : t ≡ pick (leb (h .min) len) (pick (leb len (h .max)) (t5Kind u (endKind step 0 (unpacked len bits))) false) false) where
+      code-5 : t5 step (h .min) (h .max) line ≡ t
+      code-5 =
+          let code : c ≡ unpacked len bits = sym (unpack c bytes (omega arith)) ∙ (λ i. unpacked (sym el i) (sym eb i)) in
+          five ∙ (λ i. pick (leb (h .min) (sym el i)) (pick (leb (sym el i) (h .max)) (t5Kind u (endKind step 0 (code i))) false) false) ∙ sym is
+
+      pub own-21 : t ≡ false → Refuse NoSuchCode ≡ ownVerdict step h line
+      own-21 e = by-57 false (t7 line) (code-5 ∙ e) refl
+
+      pub own-3 : t ≡ true → d ≡ 3 → Fine ≡ ownVerdict step h line
+      own-3 e three = by-57 true true (code-5 ∙ e) (pick-yes (leb 2 d) true _ (le-leb 2 d (omega arith)))
+
+      pub own-one : t ≡ true → len ≡ 1 → Fine ≡ ownVerdict step h line
+      own-one e one =
+          by-57 true true (code-5 ∙ e) (ap (λ (b : Bool). pick (leb 2 d) true (pick b true (pick (eqb (getD c 0 0) 0) false true))) (le-leb (length c) 1 (omega arith)) ∙ always (leb 2 d))
+        where
+          always : (b : Bool) → pick b true true ≡ true
+          always true = refl
+          always false = refl
+
+      module _ (e : t ≡ true) (few : d ≤ 3) (three : d ≡ 3 → ⊥) (some-bytes : 1 ≤ len) (one : len ≡ 1 → ⊥) where
+        seven : t7 line ≡ pick (eqb (getD c 0 0) 0) false true
+        seven = pick-no (leb 2 d) true _ (lt-leb 2 d (under d few other three)) ∙ pick-no (leb (length c) 1) true _ (lt-leb (length c) 1 (omega arith))
+          where
+            under : (d : ℕ) → d ≤ 3 → (d ≡ 2 → ⊥) → (d ≡ 3 → ⊥) → d < 2
+            under d a b c = omega arith
+
+        pub own-22 : bits / 16777216 ≡ 0 → Refuse LeadingZero ≡ ownVerdict step h line
+        own-22 z = by-57 true false (code-5 ∙ e) (seven ∙ ap (λ (b : Bool). pick b false true) (eq-eqb (getD c 0 0) 0 (sym (first-byte c bytes) ∙ ap (λ (b : ℕ). b / 16777216) (sym eb) ∙ z)))
+
+        pub own-fine : (bits / 16777216 ≡ 0 → ⊥) → Fine ≡ ownVerdict step h line
+        own-fine z = by-57 true true (code-5 ∙ e) (seven ∙ ap (λ (b : Bool). pick b false true) (ne-eqb (getD c 0 0) 0 (λ q. z (ap (λ (b : ℕ). b / 16777216) eb ∙ first-byte c bytes ∙ q))))
+
+-- refused is not fine
+pub refuse-fine : (x : Refusal) → Refuse x ≡ Fine → ⊥
+refuse-fine x e = let z : _≡_ {A = ℕ} 0 1 = cc in omega arith
+
+-- lines of memory as lines that can be stored
+storable : (l : Line) → GoodLine l → Storable l
+storable l g = record { proper = g .proper; least = g .some-bytes; most = g .few-bytes; point-ok = g .scalar }
+
+pub point-small : (u : ℕ) → t6 (lineAs u [] 0) ≡ true → u < 2097152
+unfolding AllByte
+point-small u h =
+    let l = lineAs u (0 ∷ []) 0 in
+    let q = entry-point l (record { proper = record { bytes = (omega arith, tt); digit = omega arith }; least = omega arith; most = omega arith; point-ok = h }) in
+    omega arith
+
+-- an entry that is tested for, among lines and among what is stored of them
+any-lines : (f : Line → Bool) (g : Entry → Bool) (ls : List Line) → All (λ x. f x ≡ g (entryOf x)) ls → anyOf f ls ≡ anyOf g (map entryOf ls)
+unfolding anyOf
+any-lines f g [] h = refl
+any-lines f g (x ∷ ls) h = (λ t. pick (h .0 t) true (any-lines f g ls (h .1) t))
+
+either-swap : (a b c : Bool) → pick a true (pick b true c) ≡ pick b true (pick a true c)
+either-swap true true c = refl
+either-swap true false c = refl
+either-swap false b c = refl
+
+any-insert : (g : Entry → Bool) (x : Entry) (l : List Entry) → anyOf g (insert less x l) ≡ pick (g x) true (anyOf g l)
+unfolding anyOf insert
+any-insert g x [] = refl
+any-insert g x (y ∷ l) = go (less y x) (any-insert g x l)
+  where
+    go : (b : Bool) → anyOf g (insert less x l) ≡ pick (g x) true (anyOf g l) → anyOf g (pick b (y ∷ insert less x l) (x ∷ y ∷ l)) ≡ pick (g x) true (pick (g y) true (anyOf g l))
+    go true e = ap (λ (r : Bool). pick (g y) true r) e ∙ either-swap (g y) (g x) (anyOf g l)
+    go false e = refl
+
+any-sort : (g : Entry → Bool) (l : List Entry) → anyOf g (sort less l) ≡ anyOf g l
+unfolding anyOf sort
+any-sort g [] = refl
+any-sort g (x ∷ l) = any-insert g x (sort less l) ∙ ap (λ (r : Bool). pick (g x) true r) (any-sort g l)
+
+-- own conditions first, then the others
+abbrev thenBy : Verdict → Verdict → Verdict
+thenBy (Refuse x) w = Refuse x
+thenBy Fine w = w
+
+then-by : (a b c d : Bool) (w : Verdict) → pick (not a) (Refuse NoScalar) (pick (not b) (Refuse NoSuchCode) (pick (not c) (Refuse LeadingZero) (pick (not d) (Refuse NoSubchar1) w))) ≡ thenBy (verdictOf a b c d) w
+then-by true true true true w = refl
+then-by true true true false w = refl
+then-by true true false d w = refl
+then-by true false c d w = refl
+then-by false b c d w = refl
+
+fine-first : (a b c d : Bool) → verdictOf a b c d ≡ Fine → a ≡ true
+fine-first true b c d e = refl
+fine-first false b c d e = absurd (refuse-fine NoScalar e)
+
+-- the memory behind CHARMAP, and one mapping more
+module _ (h : Head) (n : ℕ) (rows : List (List ℕ)) (ls : List Line) (s c i o : List ℕ) (held : Holding limits h n rows ls s c i o) where
+  goods : All Storable ls
+  goods = all-map storable ls (held .lines-good)
+
+  pub held-kept : Kept 2048 n c i o
+  held-kept =
+      let apart : AllApart (map entryOf ls) = t9-apart ls goods (held .lines-apart) in
+      record {
+        es = sorted ls;
+        count = sort-length less (map entryOf ls) ∙ length-map ls entryOf ∙ held .lines-count;
+        rising = sorted-rising (map entryOf ls) apart;
+        apart = sorted-apart (map entryOf ls) apart;
+        stored = held .stored;
+      }
+
+  held-entries : entries (take n c) (take n i) ≡ sorted ls
+  unfolding held-kept
+  held-entries = held-is 2048 n c i o held-kept
+
+  module _ (l : Line) (own : Verdict) (own-by : own ≡ ownVerdict (stepAt (take 4096 s)) h l) where
+    abbrev last : Verdict
+    last = pick (n24 ls l) (Refuse BytesTaken) (pick (n25 ls l) (Refuse PointTaken) (pick (n26 limits ls) (Refuse TooMany) Fine))
+
+    verdict : lowest (mappingConditions limits h rows ls l) ≡ thenBy own last
+    unfolding lowest mappingConditions n20 n21 n22 n23
+    verdict =
+        then-by (t6 l) (t5 (stepAt (flat rows)) (h .min) (h .max) l) (t7 l) (t8 (sub1In (h .sub1)) l) last
+        ∙ ap (λ (step : Rows). thenBy (verdictOf (t6 l) (t5 step (h .min) (h .max) l) (t7 l) (t8 (sub1In (h .sub1)) l)) last) (sym (steps-held rows s (held .states-are)))
+        ∙ ap (λ (v : Verdict). thenBy v last) (sym (own-by ∙ own-is (stepAt (take 4096 s)) h l))
+
+    pub own-refused : (x : Refusal) → own ≡ Refuse x → lowest (mappingConditions limits h rows ls l) ≡ Refuse x
+    own-refused x e = verdict ∙ ap (λ (v : Verdict). thenBy v last) e
+
+    -- none of 20 to 23 holds
+    module _ (fine : own ≡ Fine) (digit : l .indicator ≤ 3) (bytes : AllByte (l .code)) (least : 1 ≤ length (l .code)) (most : length (l .code) ≤ 4) where
+      abbrev held-now : List Entry
+      held-now = entries (take n c) (take n i)
+
+      good : GoodLine l
+      good = record {
+        proper = record { bytes = bytes; digit = omega arith };
+        some-bytes = least;
+        few-bytes = most;
+        scalar = fine-first (t6 l) (t5 (stepAt (take 4096 s)) (h .min) (h .max) l) (t7 l) (t8 (sub1In (h .sub1)) l) (sym (own-is (stepAt (take 4096 s)) h l) ∙ sym own-by ∙ fine);
+      }
+
+      reads-taken : n24 ls l ≡ readTaken (entryOf l) held-now
+      unfolding n24 readTaken
+      reads-taken =
+          any-lines (λ x. sharesBytes x l) (λ x. readClash x (entryOf l)) ls (all-map (λ x (g : Storable x). shares-bytes x l g (storable l good)) ls goods)
+          ∙ sym (any-sort (λ x. readClash x (entryOf l)) (map entryOf ls)) ∙ ap (λ (es : List Entry). anyOf (λ x. readClash x (entryOf l)) es) (sym held-entries)
+
+      writes-taken : n25 ls l ≡ writeTaken (entryOf l) held-now
+      unfolding n25 writeTaken
+      writes-taken =
+          any-lines (λ x. sharesPoint x l) (λ x. writeClash x (entryOf l)) ls (all-map (λ x (g : Storable x). shares-point x l g (storable l good)) ls goods)
+          ∙ sym (any-sort (λ x. writeClash x (entryOf l)) (map entryOf ls)) ∙ ap (λ (es : List Entry). anyOf (λ x. writeClash x (entryOf l)) es) (sym held-entries)
+
+      pub added-is : (e : Entry) (v : Verdict) → e ≡ entryOf l
+          → v ≡ pick (readTaken e held-now) (Refuse BytesTaken) (pick (writeTaken e held-now) (Refuse PointTaken) (pick (leb 2048 n) (Refuse TooMany) Fine))
+          → lowest (mappingConditions limits h rows ls l) ≡ v
+      unfolding n26
+      added-is e v q is =
+          verdict ∙ ap (λ (w : Verdict). thenBy w last) fine
+          ∙ (λ t. pick (reads-taken t) (Refuse BytesTaken) (pick (writes-taken t) (Refuse PointTaken) (pick (leb 2048 (held .lines-count t)) (Refuse TooMany) Fine)))
+          ∙ ap (λ (x : Entry). pick (readTaken x held-now) (Refuse BytesTaken) (pick (writeTaken x held-now) (Refuse PointTaken) (pick (leb 2048 n) (Refuse TooMany) Fine))) (sym q)
+          ∙ sym is
+
+      pub more-taken : (e : Entry) (c′ i′ o′ : List ℕ) → e ≡ entryOf l → lowest (mappingConditions limits h rows ls l) ≡ Fine → Kept 2048 (n + 1) c′ i′ o′
+          → entries (take (n + 1) c′) (take (n + 1) i′) ≡ insert less e held-now
+          → Taken limits (judged (lowest (mappingConditions limits h rows ls l)) (reading Mappings h rows (l ∷ ls))) (outcome.On (progress Mappings h (n + 1))) s c′ i′ o′
+      unfolding mappingConditions n24 n25 t9
+      more-taken e c′ i′ o′ q v k ins =
+          let none = lowest-none (mappingConditions limits h rows ls l) v in
+          let es : k .es ≡ sorted (l ∷ ls) = sym (held-is 2048 (n + 1) c′ i′ o′ k) ∙ ins ∙ (λ t. insert less (q t) (held-entries t)) ∙ sym (sorted-more l ls) in
+          let m = held .lines-count in
+          let count : n + 1 ≡ length (l ∷ ls) = omega arith in
+          fine-taken limits (lowest (mappingConditions limits h rows ls l)) (reading Mappings h rows (l ∷ ls)) (progress Mappings h (n + 1)) s c′ i′ o′ v (ap (λ (z : ℕ). progress Mappings h z) count)
+          (record {
+            head-proper = held .head-proper;
+            rows-count = held .rows-count;
+            rows-few = held .rows-few;
+            rows-full = held .rows-full;
+            rows-known = held .rows-known;
+            states-are = held .states-are;
+            lines-count = refl;
+            lines-good = (good, held .lines-good);
+            lines-apart = bar (anyOf (λ x. sharesBytes x l) ls) _ (none .1 .1 .1 .1 .0) (bar (anyOf (λ x. sharesPoint x l) ls) _ (none .1 .1 .1 .1 .1 .0) (held .lines-apart));
+            stored = subst (λ (z : List Entry). Stored 2048 z c′ i′ o′) es (k .stored);
+          })
+
+-- the two numbers of a mapping
+pub entry-same : (u d bits len info : ℕ) (c : List ℕ) → bits ≡ packed c → len ≡ length c → info ≡ u + 2097152 * rankOf d + 16777216 * (len - 1) → mk bits info ≡ entryOf (lineAs u c d)
+unfolding entryOf
+entry-same u d bits len info c eb el ei = (λ t. mk (eb t) (i t))
+  where
+    i : info ≡ u + 2097152 * rankOf d + 16777216 * (length c - 1)
+    i = ei ∙ ap (λ (n : ℕ). u + 2097152 * rankOf d + 16777216 * (n - 1)) el
+
+-- what insertion leaves
+module _ (n : ℕ) (c i o : List ℕ) (k : Kept 2048 n c i o) (e : Entry) (reads : readTaken e (entries (take n c) (take n i)) ≡ false) (writes : writeTaken e (entries (take n c) (take n i)) ≡ false) (room : n < 2048)
+    (c′ i′ o′ : List ℕ) (ec : c′ ≡ map bitsOf (insert less e (entries (take n c) (take n i))) ++ drop (n + 1) c)
+    (ei : i′ ≡ map infoOf (insert less e (entries (take n c) (take n i))) ++ drop (n + 1) i) (eo : o′ ≡ orderOf (insert less e (entries (take n c) (take n i))) ++ drop (n + 1) o) where
+  abbrev new : List Entry
+  new = insert less e (entries (take n c) (take n i))
+
+  new-count : length new ≡ n + 1
+  new-count = let m = insert-length less e (entries (take n c) (take n i)) in let q : length (entries (take n c) (take n i)) ≡ n = ap (λ (l : List Entry). length l) (held-is 2048 n c i o k) ∙ k .count in omega arith
+
+  pub added-kept : Kept 2048 (n + 1) c′ i′ o′
+  added-kept =
+      subst (λ (x : List ℕ). Kept 2048 (n + 1) x i′ o′) (sym ec)
+      (subst (λ (x : List ℕ). Kept 2048 (n + 1) (map bitsOf new ++ drop (n + 1) c) x o′) (sym ei)
+      (subst (λ (x : List ℕ). Kept 2048 (n + 1) (map bitsOf new ++ drop (n + 1) c) (map infoOf new ++ drop (n + 1) i) x) (sym eo) (free-next n c i o k e reads writes room)))
+
+  pub added-held : entries (take (n + 1) c′) (take (n + 1) i′) ≡ new
+  added-held = (λ t. entries (take (n + 1) (ec t)) (take (n + 1) (ei t))) ∙ next-held n c i o k e
+
+  pub added-codes : drop 2048 c′ ≡ drop 2048 c
+  added-codes = ap (λ (x : List ℕ). drop 2048 x) ec ∙ drop-put 2048 (n + 1) (map bitsOf new) c (length-map new bitsOf ∙ new-count) (omega arith)
+
+  pub added-infos : drop 2048 i′ ≡ drop 2048 i
+  added-infos = ap (λ (x : List ℕ). drop 2048 x) ei ∙ drop-put 2048 (n + 1) (map infoOf new) i (length-map new infoOf ∙ new-count) (omega arith)
+
+  pub added-order : drop 2048 o′ ≡ drop 2048 o
+  added-order = ap (λ (x : List ℕ). drop 2048 x) eo ∙ drop-put 2048 (n + 1) (orderOf new) o (order-length new ∙ new-count) (omega arith)

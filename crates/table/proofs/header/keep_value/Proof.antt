@@ -1,0 +1,110 @@
+use native.Mathlib.Omega.{arith}
+use borrow.Author.Needs.{needs}
+use Rattle.table.specs.Header.{InRange}
+use Rattle.table.specs.Load.{keep}
+use Rattle.table.proofs.header.keep_value.Statement.{statement}
+use Rattle.table.proofs.header.keep_value.Tie as tie
+
+enum-told : tie.Need-enum-told
+enum-told c = search needs
+
+enum-told-2 : tie.Need-enum-told-2
+enum-told-2 c = search needs
+
+enum-told-3 : tie.Need-enum-told-3
+enum-told-3 c = search needs
+
+enum-told-4 : tie.Need-enum-told-4
+enum-told-4 c = search needs
+
+enum-known-v : tie.Need-enum-known-v
+enum-known-v c = search needs
+
+enum-known-v-2 : tie.Need-enum-known-v-2
+enum-known-v-2 c = search needs
+
+enum-known-v-3 : tie.Need-enum-known-v-3
+enum-known-v-3 c = search needs
+
+enum-known-v-4 : tie.Need-enum-known-v-4
+enum-known-v-4 c = search needs
+
+enum-known-v-5 : tie.Need-enum-known-v-5
+enum-known-v-5 c = search needs
+
+add-g : tie.Need-add-g
+unfolding InRange
+add-g c = let h = rw (c .before .v5 .given .1) at (c .before .before .before .pre .1) in omega arith
+
+enum-told-5 : tie.Need-enum-told-5
+enum-told-5 c = search needs
+
+add-g-2 : tie.Need-add-g-2
+add-g-2 c = search needs
+
+returns : tie.Need-returns
+unfolding keep
+returns c = rw (c .enum-told .given .1)
+
+returns-2 : tie.Need-returns-2
+unfolding keep
+returns-2 c = rw (c .enum-told2 .given .1)
+
+returns-3 : tie.Need-returns-3
+unfolding keep
+returns-3 c = rw (c .enum-told3 .given .1)
+
+returns-4 : tie.Need-returns-4
+unfolding keep
+returns-4 c = rw (c .enum-told4 .given .1)
+
+returns-5 : tie.Need-returns-5
+unfolding keep
+returns-5 c = rw (c .before .v .given .1)
+
+returns-6 : tie.Need-returns-6
+unfolding keep
+returns-6 c = rw (c .before .v2 .given .1)
+
+returns-7 : tie.Need-returns-7
+unfolding keep
+returns-7 c = rw (c .before .v3 .given .1)
+
+returns-8 : tie.Need-returns-8
+unfolding keep
+returns-8 c = rw (c .before .v4 .given .1)
+
+returns-9 : tie.Need-returns-9
+unfolding keep
+returns-9 c = rw (c .before .v5 .given .1)
+
+returns-10 : tie.Need-returns-10
+unfolding keep
+returns-10 c = rw (c .before .enum-told5 .given .1)
+
+pub keep-value-spec : {M : Type 1} → statement M
+keep-value-spec =
+    tie.close
+    (tie.spec
+    enum-told
+    enum-told-2
+    enum-told-3
+    enum-told-4
+    enum-known-v
+    enum-known-v-2
+    enum-known-v-3
+    enum-known-v-4
+    enum-known-v-5
+    add-g
+    enum-told-5
+    add-g-2
+    returns
+    returns-2
+    returns-3
+    returns-4
+    returns-5
+    returns-6
+    returns-7
+    returns-8
+    returns-9
+    returns-10)

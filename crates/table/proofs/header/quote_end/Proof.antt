@@ -1,0 +1,53 @@
+use mathlib.Core.Path.{_≡_}
+use Prim.Native.Nat.{_-_, _≤_}
+use native.Mathlib.Omega.{arith}
+use lib.ListN.{length, drop}
+use borrow.Author.Needs.{needs}
+use Rattle.lists.proofs.Laws.{tests, drop-step, drop-end}
+use Rattle.table.specs.Text.{quoteEnd}
+use Rattle.table.proofs.header.quote_end.Statement.{statement}
+use Rattle.table.proofs.header.quote_end.Tie as tie
+
+abbrev Inv-loop : tie.InvT-loop
+Inv-loop s at i₀ i = (quoteEnd at (drop at s) ≡ quoteEnd i (drop i s)) × (at ≤ i) × (i ≤ length s)
+
+abbrev μ-loop : tie.MeasureT-loop
+μ-loop s at i₀ i = length s - i
+
+loop-holds : tie.Need-loop-holds Inv-loop μ-loop
+loop-holds c = search needs
+
+shared-slice-read-if1 : tie.Need-shared-slice-read-if1 Inv-loop μ-loop
+shared-slice-read-if1 c = search needs
+
+returns : tie.Need-returns Inv-loop μ-loop
+unfolding quoteEnd
+returns c = (search (tests, drop-step, c .before .before .before .loop .inv .0), omega arith, omega arith)
+
+add-i : tie.Need-add-i Inv-loop μ-loop
+add-i c = search needs
+
+loop-less : tie.Need-loop-less Inv-loop μ-loop
+loop-less c = search needs
+
+loop-again : tie.Need-loop-again Inv-loop μ-loop
+unfolding quoteEnd
+loop-again c = let lt = c .before .before .loop-test .taken in (rw (c .before .before .before .loop .inv .0, drop-step) (search tests), omega arith, omega arith)
+
+returns-2 : tie.Need-returns-2 Inv-loop μ-loop
+unfolding quoteEnd
+returns-2 c = (search (tests, drop-end, c .before .loop .inv .0), omega arith, omega arith)
+
+pub quote-end-spec : {M : Type 1} → statement M
+quote-end-spec =
+    tie.close
+    (tie.spec
+    Inv-loop
+    μ-loop
+    loop-holds
+    shared-slice-read-if1
+    returns
+    add-i
+    loop-less
+    loop-again
+    returns-2)

@@ -1,0 +1,22 @@
+use Prim.Native.Nat.{_-_}
+use Rattle.table.specs.Text.{endsAt}
+use Rattle.table.proofs.TextLaws.{scan}
+use borrow.Author.Needs.{needs}
+use Rattle.table.proofs.text.ends.Statement.{statement}
+use Rattle.table.proofs.text.ends.Tie as tie
+use Rattle.table.proofs.text.ends.Reads as reads
+use Rattle.table.proofs.text.ends.Lts as lts
+
+returns : tie.Need-returns
+unfolding endsAt
+returns c = search scan
+
+shared-slice-read-result : tie.Need-shared-slice-read-result
+shared-slice-read-result c = search needs
+
+returns-2 : tie.Need-returns-2
+unfolding endsAt
+returns-2 c = search scan
+
+pub ends-spec : {M : Type 1} → statement M
+ends-spec = tie.close (tie.spec returns shared-slice-read-result returns-2)

@@ -1,0 +1,19 @@
+use Prim.Native.Nat.{_-_}
+use Rattle.table.proofs.TextLaws.{scan}
+use borrow.Author.Needs.{needs}
+use Rattle.table.proofs.text.plus.Statement.{statement}
+use Rattle.table.proofs.text.plus.Tie as tie
+use Rattle.table.proofs.text.plus.Reads as reads
+use Rattle.table.proofs.text.plus.Lts as lts
+
+returns : tie.Need-returns
+returns c = search scan
+
+shared-slice-read-result : tie.Need-shared-slice-read-result
+shared-slice-read-result c = search needs
+
+returns-2 : tie.Need-returns-2
+returns-2 c = search scan
+
+pub plus-spec : {M : Type 1} → statement M
+plus-spec = tie.close (tie.spec returns shared-slice-read-result returns-2)

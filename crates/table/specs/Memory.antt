@@ -1,0 +1,110 @@
+-- The form: the record and the lent numbers of a table. One form for one meaning.
+use Prim.Native.Nat.{ℕ, zero, suc, _+_, _-_, _*_, _≤_, _<_}
+use mathlib.Core.Bool.{Bool, true, false}
+use mathlib.Core.Path.{_≡_}
+use mathlib.Core.Option.{Option, none, some}
+use mathlib.Core.List.{List, [], _∷_, _++_, map}
+use lib.Dec.{ltb, leb, eqb}
+use lib.ListN.{length, take, drop, getD, replicate}
+use Rattle.lists.specs.Pick.{pick}
+use Rattle.lists.specs.Order.{sort, upFrom, All}
+use Rattle.table.specs.Limits.{Limits, needed}
+use Rattle.table.specs.Codes.{codeOf, bytesOf, AllByte}
+use Rattle.table.specs.Meaning.{Line, Table, flat}
+use Rattle.table.specs.Rules.{allOf}
+use Rattle.table.specs.Entry.{Entry, mk, bitsOf, infoOf, entryOf, lineIn, less, pointLess}
+use Rattle.table.specs.declared.valid.Record.{Record}
+
+-- the entry at an index of the two slices
+abbrev pub entryAt : List ℕ → List ℕ → ℕ → Entry
+entryAt bs is k = mk (getD bs k 0) (getD is k 0)
+
+abbrev pub nth : List Entry → ℕ → Entry
+nth es k = entryAt (map bitsOf es) (map infoOf es) k
+
+-- two slices as a list of entries
+unfoldable pub entries : List ℕ → List ℕ → List Entry
+entries [] is = []
+entries (b ∷ bs) [] = []
+entries (b ∷ bs) (i ∷ is) = mk b i ∷ entries bs is
+
+-- the indices by the second order
+unfoldable pub indexLess : List Entry → ℕ → ℕ → Bool
+indexLess es i j = pointLess (nth es i) (nth es j)
+
+unfoldable pub orderOf : List Entry → List ℕ
+orderOf es = sort (indexLess es) (upFrom 0 (length es))
+
+-- the stored lines, rising by code
+abbrev pub sorted : List Line → List Entry
+sorted ls = sort less (map entryOf ls)
+
+-- numbers, and zeros in the unused needed places
+unfoldable pub filled : ℕ → List ℕ → List ℕ
+filled limit xs = xs ++ replicate (limit - length xs) 0
+
+-- subchar1: 0 where none is given, else 1 + the byte
+abbrev pub sub1Of : Option ℕ → ℕ
+sub1Of none = 0
+sub1Of (some b) = 1 + b
+
+abbrev pub sub1In : ℕ → Option ℕ
+sub1In n = pick (eqb n 0) none (some (n - 1))
+
+unfoldable pub recordOf : Table → Record
+recordOf t =
+    record {
+      rows = length (t .rows);
+      mappings = length (t .lines);
+      min = t .min;
+      max = t .max;
+      subchar = codeOf (t .subchar);
+      subchar1 = sub1Of (t .subchar1);
+    }
+
+-- the entries of the mapping slices
+pub record Stored (limit : ℕ) (es : List Entry) (codes infos order : List ℕ) : Type 0 where
+  pub fits : length es ≤ limit
+  pub codes-are : take limit codes ≡ filled limit (map bitsOf es)
+  pub infos-are : take limit infos ≡ filled limit (map infoOf es)
+  pub order-is : take limit order ≡ filled limit (orderOf es)
+
+-- THE FORM of a table; what lies past the needed places is anything
+pub record Form (lim : Limits) (t : Table) (rec : Record) (states codes infos order : List ℕ) : Type 0 where
+  pub record-is : rec ≡ recordOf t
+  pub states-are : take (needed lim) states ≡ filled (needed lim) (flat (t .rows))
+  pub mappings-are : Stored (lim .mappings) (sorted (t .lines)) codes infos order
+
+-- n rows of 256 entries from the front of a list
+unfoldable pub pieces : ℕ → List ℕ → List (List ℕ)
+pieces zero l = []
+pieces (suc n) l = take 256 l ∷ pieces n (drop 256 l)
+
+-- the table that a record and memory hold, whatever they are
+unfoldable pub tableIn : Record → List ℕ → List ℕ → List ℕ → Table
+tableIn rec states codes infos =
+    record {
+      rows = pieces (rec .rows) states;
+      lines = map lineIn (entries (take (rec .mappings) codes) (take (rec .mappings) infos));
+      min = rec .min;
+      max = rec .max;
+      subchar = bytesOf (rec .subchar);
+      subchar1 = sub1In (rec .subchar1);
+    }
+
+-- an entry of a row is 0 to 3 or leads on
+abbrev pub known : ℕ → Bool
+known e = pick (leb e 3) true (leb 16 e)
+
+-- a line as a text can give it
+pub record ProperLine (l : Line) : Type 0 where
+  pub bytes : AllByte (l .code)
+  pub digit : l .indicator < 4
+
+-- a table as a text can give it: rows of 256 entries, bytes that are bytes, digits that are indicators
+pub record Proper (t : Table) : Type 0 where
+  pub rows-full : All (λ r. length r ≡ 256) (t .rows)
+  pub rows-known : allOf known (flat (t .rows)) ≡ true
+  pub lines-proper : All ProperLine (t .lines)
+  pub sub-bytes : AllByte (t .subchar)
+  pub sub1-byte : sub1Of (t .subchar1) < 257

@@ -1,0 +1,111 @@
+-- What every table keeps: T1 to T9 of document 01, one definition each, over rows and lines alone.
+use Prim.Native.Nat.{ℕ, zero, suc, _+_}
+use mathlib.Core.Path.{_≡_}
+use mathlib.Core.Bool.{Bool, true, false}
+use mathlib.Core.Option.{Option, none, some}
+use mathlib.Core.List.{List, [], _∷_}
+use lib.ListN.{length, getD}
+use lib.Dec.{ltb, leb, eqb}
+use Rattle.lists.specs.Pick.{pick}
+use Rattle.table.specs.Limits.{Limits}
+use Rattle.table.specs.States.{Rows, stepOf, endKind, isCode, within, leadsTo}
+use Rattle.table.specs.Meaning.{Line, Table, flat, stepsOf, same, isRead, isWritten}
+
+-- f holds of every element
+unfoldable pub allOf : {A : Type 0} → (A → Bool) → List A → Bool
+allOf f [] = true
+allOf f (x ∷ l) = let r = allOf f l in pick (f x) r false
+
+-- f holds of some element
+unfoldable pub anyOf : {A : Type 0} → (A → Bool) → List A → Bool
+anyOf f [] = false
+anyOf f (x ∷ l) = let r = anyOf f l in pick (f x) true r
+
+-- T1: 1 to 16 rows, 0 to 2,048 mappings, mb_cur_min no larger than mb_cur_max, both 1 to 4
+abbrev pub t1Rows : Limits → ℕ → Bool
+t1Rows lim n = pick (leb 1 n) (leb n (lim .rows)) false
+
+abbrev pub t1Lines : Limits → ℕ → Bool
+t1Lines lim n = leb n (lim .mappings)
+
+abbrev pub t1Sizes : ℕ → ℕ → Bool
+t1Sizes min max = pick (leb 1 min) (pick (leb min max) (leb max 4) false) false
+
+-- T2: a row led to exists (n rows there are) and is not row 0
+abbrev pub t2Row : ℕ → ℕ → Bool
+t2Row n m = pick (leb 1 m) (ltb m n) false
+
+abbrev pub t2 : ℕ → List ℕ → Bool
+t2 n entries = allOf (λ e. leadsTo (t2Row n) (stepOf e)) entries
+
+-- T3: no way from row 0 leads on more than mb_cur_max minus 1 times
+abbrev pub t3 : Rows → ℕ → Bool
+t3 step max = within step max 0
+
+-- T4: subchar is a complete code; subchar1, if given, is one of one byte
+abbrev pub t4Sub : Rows → List ℕ → Bool
+t4Sub step c = isCode step 0 c
+
+abbrev pub t4Sub1 : Rows → Option ℕ → Bool
+t4Sub1 step none = true
+t4Sub1 step (some b) = isCode step 0 (b ∷ [])
+
+-- T5: a `|0`, `|1` or `|3` line has a complete code, not ended by `u`, of mb_cur_min to mb_cur_max bytes; above U+FFFF it needs `p`
+abbrev pub t5Kind : ℕ → ℕ → Bool
+t5Kind point kind = pick (eqb kind 2) true (pick (eqb kind 1) (leb point 0xffff) false)
+
+abbrev pub t5 : Rows → ℕ → ℕ → Line → Bool
+t5 step min max l =
+    pick (eqb (l .indicator) 2) true
+    (pick (leb min (length (l .code)))
+    (pick (leb (length (l .code)) max)
+    (t5Kind (l .point) (endKind step 0 (l .code))) false) false)
+
+-- T6: code points are at most U+10FFFF and no surrogate
+abbrev pub t6 : Line → Bool
+t6 l = pick (ltb (l .point) 0xd800) true (pick (ltb (l .point) 0xe000) false (leb (l .point) 0x10ffff))
+
+-- T7: a code of two or more bytes that begins 00 is not in a `|0` or `|1` line
+abbrev pub t7 : Line → Bool
+t7 l =
+    pick (leb 2 (l .indicator)) true
+    (pick (leb (length (l .code)) 1) true
+    (pick (eqb (getD (l .code) 0 0) 0) false true))
+
+-- T8: a `|2` line has exactly the subchar1 byte
+abbrev pub t8Byte : Option ℕ → List ℕ → Bool
+t8Byte none c = false
+t8Byte (some b) c = same c (b ∷ [])
+
+abbrev pub t8 : Option ℕ → Line → Bool
+t8 sub1 l = pick (eqb (l .indicator) 2) (t8Byte sub1 (l .code)) true
+
+-- T9: no two lines of `|0` and `|3` share bytes
+abbrev pub sharesBytes : Line → Line → Bool
+sharesBytes a b = pick (isRead a) (pick (isRead b) (same (a .code) (b .code)) false) false
+
+-- T9: no two lines of `|0`, `|1` and `|2` share a code point
+abbrev pub sharesPoint : Line → Line → Bool
+sharesPoint a b = pick (isWritten a) (pick (isWritten b) (eqb (a .point) (b .point)) false) false
+
+unfoldable pub t9 : List Line → Bool
+t9 [] = true
+t9 (l ∷ ls) =
+    let r = t9 ls in
+    pick (anyOf (λ x. sharesBytes x l) ls) false
+    (pick (anyOf (λ x. sharesPoint x l) ls) false r)
+
+-- a table that keeps them all
+pub record Keeps (lim : Limits) (t : Table) : Type 0 where
+  pub rule1-rows : t1Rows lim (length (t .rows)) ≡ true
+  pub rule1-lines : t1Lines lim (length (t .lines)) ≡ true
+  pub rule1-sizes : t1Sizes (t .min) (t .max) ≡ true
+  pub rule2 : t2 (length (t .rows)) (flat (t .rows)) ≡ true
+  pub rule3 : t3 (stepsOf t) (t .max) ≡ true
+  pub rule4-sub : t4Sub (stepsOf t) (t .subchar) ≡ true
+  pub rule4-sub1 : t4Sub1 (stepsOf t) (t .subchar1) ≡ true
+  pub rule5 : allOf (t5 (stepsOf t) (t .min) (t .max)) (t .lines) ≡ true
+  pub rule6 : allOf t6 (t .lines) ≡ true
+  pub rule7 : allOf t7 (t .lines) ≡ true
+  pub rule8 : allOf (t8 (t .subchar1)) (t .lines) ≡ true
+  pub rule9 : t9 (t .lines) ≡ true

@@ -1,0 +1,76 @@
+-- What state rows say of a byte string. Rows are known by what a row says of a byte: `step row byte`.
+use Prim.Native.Nat.{ℕ, zero, suc, _+_, _-_, _*_}
+use mathlib.Core.List.{List, [], _∷_}
+use mathlib.Core.Bool.{Bool, true, false}
+use lib.ListN.{getD}
+use lib.Dec.{ltb, leb, eqb}
+use Rattle.lists.specs.Pick.{pick}
+use Rattle.table.specs.declared.states.Step.{Step}
+use Rattle.table.specs.declared.states.Step.the-variants.{Illegal, Ends, Leads}
+use Rattle.table.specs.declared.states.Halt.{Halt}
+use Rattle.table.specs.declared.states.Halt.the-variants as halt
+use Rattle.table.specs.declared.states.Cut.{Cut}
+use Rattle.table.specs.declared.states.Cut.the-variants.{Complete, Stopped}
+
+-- an entry as a number: 0 illegal; 1, 2, 3 ends the code; 16 + n leads on to row n; the others are kept free
+abbrev pub stepOf : ℕ → Step
+stepOf e = pick (leb 16 e) (Leads (e - 16)) (pick (leb 4 e) Illegal (pick (eqb e 0) Illegal (Ends e)))
+
+-- row r, byte b of a list of entries stands at 256 r + b; past the end all is illegal
+unfoldable pub stepAt : List ℕ → ℕ → ℕ → Step
+stepAt entries row b = stepOf (getD entries (row * 256 + b) 0)
+
+abbrev pub Rows : Type 0
+Rows = ℕ → ℕ → Step
+
+-- the longest code has four bytes
+abbrev pub longest : ℕ
+longest = 4
+
+-- the sequence at the front of s, from a row on, with f bytes left of the longest and k read
+unfoldable pub cutFrom : Rows → ℕ → ℕ → ℕ → List ℕ → Cut
+cutFrom step zero row k s = Stopped (halt.Illegal k)
+cutFrom step (suc f) row k [] = Stopped halt.CutShort
+cutFrom step (suc f) row k (b ∷ s) =
+    elim (step row b) [
+      | Illegal ↦ Stopped (halt.Illegal (k + 1))
+      | Ends e ↦ Complete (k + 1) e
+      | Leads n ↦ cutFrom step f n (k + 1) s
+    ]
+
+-- the sequence at the front of s, from its initial row on
+abbrev pub cutOf : Rows → ℕ → List ℕ → Cut
+cutOf step row s = cutFrom step longest row 0 s
+
+abbrev pub isEmpty : List ℕ → Bool
+isEmpty [] = true
+isEmpty (b ∷ s) = false
+
+-- how the whole of s ends as a complete code (document 01's term) from a row on: 1, 2 or 3; 0 where s is none.
+-- It leads on at every byte but the last and ends there without being illegal.
+unfoldable pub endKind : Rows → ℕ → List ℕ → ℕ
+endKind step row [] = 0
+endKind step row (b ∷ s) =
+    elim (step row b) [
+      | Illegal ↦ 0
+      | Ends e ↦ pick (isEmpty s) e 0
+      | Leads n ↦ endKind step n s
+    ]
+
+abbrev pub isCode : Rows → ℕ → List ℕ → Bool
+isCode step row s = pick (eqb (endKind step row s) 0) false true
+
+-- f holds of every number below n
+unfoldable pub allBelow : (ℕ → Bool) → ℕ → Bool
+allBelow f zero = true
+allBelow f (suc n) = pick (allBelow f n) (f n) false
+
+abbrev pub leadsTo : (ℕ → Bool) → Step → Bool
+leadsTo w Illegal = true
+leadsTo w (Ends e) = true
+leadsTo w (Leads n) = w n
+
+-- every way from a row leads on fewer than d times, a row with no entry counted like any other
+unfoldable pub within : Rows → ℕ → ℕ → Bool
+within step zero row = false
+within step (suc d) row = allBelow (λ b. leadsTo (within step d) (step row b)) 256

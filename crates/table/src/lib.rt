@@ -1,0 +1,9 @@
+// Conversion tables: the text, the rules that every table keeps, the lent memory that holds one, look-up from either side.
+pub mod codes;
+pub mod header;
+pub mod load;
+pub mod mapping;
+pub mod states;
+pub mod store;
+pub mod text;
+pub mod valid;
