@@ -14,7 +14,8 @@ use Rattle.table.specs.declared.states.Code.{Code}
 use Rattle.table.specs.declared.codes.Next.the-variants.{Found, Nothing}
 use Rattle.table.proofs.Packing.{unpack}
 use Rattle.table.proofs.CodeOrder.{before-irrefl, before-trans, before-asym, not-before, after-all, upto-none, after-keeps}
-use Rattle.table.proofs.CodeList.{rising-codes, Bytes, codes-bytes, NoEndsZero, CompleteCode, codes-are-codes}
+use Rattle.table.proofs.Cuts.{NoEndsZero}
+use Rattle.table.proofs.CodeList.{rising-codes, Bytes, codes-bytes, CompleteCode, codes-are-codes}
 
 -- a string that comes after p, and all behind it in a rising list
 rest-after : (p x : List ℕ) (l : List (List ℕ)) → before p x ≡ true → All (λ s. before x s ≡ true) l → All (λ s. before p s ≡ true) l

@@ -16,7 +16,7 @@ use Rattle.table.specs.Codes.{codesOn, scan, codesFrom, allCodes, before
 use Rattle.table.specs.declared.states.Step.{Step}
 use Rattle.table.specs.declared.states.Step.the-variants.{Illegal, Ends, Leads}
 use Rattle.table.specs.declared.codes.Next.the-variants.{Found, Nothing}
-use Rattle.table.proofs.RowLaws.{ends-known}
+use Rattle.table.proofs.Cuts.{NoEndsZero}
 use Rattle.table.proofs.Depth.{short-code}
 use Rattle.table.proofs.CodeOrder.{before-irrefl, before-trans, before-lt, before-same, after-append, after-low}
 
@@ -153,13 +153,6 @@ pub end-kind-at : (step : Rows) (row b : ℕ) (s : List ℕ) (x : Step) → step
 unfolding endKind
 end-kind-at step row b s x q = rw (q, endKind)
 
--- no entry is taken for an end of kind 0
-abbrev pub NoEndsZero : Rows → Type 0
-NoEndsZero step = (r b : ℕ) → step r b ≡ Ends 0 → ⊥
-
-pub no-ends-zero : (entries : List ℕ) → NoEndsZero (stepAt entries)
-no-ends-zero entries r b q = let h = ends-known entries r b 0 q in omega (arith, h .0)
-
 -- what is listed is a complete code of 1 to f bytes
 pub record CompleteCode (step : Rows) (f row : ℕ) (s : List ℕ) : Type 0 where
   pub ends : endKind step row s ≡ 0 → ⊥
@@ -171,7 +164,7 @@ pub codes-are-codes : (step : Rows) → NoEndsZero step → (f row : ℕ) → Al
 unfolding AllByte
 codes-are-codes step nz =
     codes-by step (CompleteCode step)
-    (λ f row b e h q. record { ends = λ z. nz row b (q ∙ ap Ends (sym (end-kind-at step row b [] (Ends e) q) ∙ z)); bytes = (h, tt); some = omega arith; short = omega arith })
+    (λ f row b e h q. record { ends = λ z. let p : 1 ≤ e = nz row b e q in let w : e ≡ 0 = sym (end-kind-at step row b [] (Ends e) q) ∙ z in omega arith; bytes = (h, tt); some = omega arith; short = omega arith })
     (λ f row b n s h q p. record { ends = λ z. p .ends (sym (end-kind-at step row b s (Leads n) q) ∙ z); bytes = (h, p .bytes); some = omega arith; short = omega (arith, p .short) })
 
 -- every complete code of at most f bytes is listed

@@ -44,8 +44,8 @@ end-here step row (suc n) v x h q = rw sub-one (end-on step row (v / 16777216) (
 abbrev pub NoEndsZero : Rows → Type 0
 NoEndsZero step = (row b e : ℕ) → step row b ≡ Ends e → 1 ≤ e
 
-pub entries-end : (l : List ℕ) → NoEndsZero (stepAt l)
-entries-end l row b e h = ends-known l row b e h .0
+pub no-ends-zero : (l : List ℕ) → NoEndsZero (stepAt l)
+no-ends-zero l row b e h = ends-known l row b e h .0
 
 -- m bytes were read, those from k on are a code that ends by e
 pub record CutCode (step : Rows) (f row k : ℕ) (s : List ℕ) (m e : ℕ) : Type 0 where

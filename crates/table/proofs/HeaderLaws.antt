@@ -43,6 +43,7 @@ use Rattle.table.specs.Meaning.{same, Line as Mapping}
 use Rattle.table.specs.Rules.{allOf}
 use Rattle.table.specs.Codes.{packed, unpacked, AllByte}
 use Rattle.table.specs.Memory.{known}
+use Rattle.table.proofs.LowestLaws.{lowest-fine}
 use Rattle.table.proofs.Packing.{length-unpacked, unpacked-bytes, packed-fits, packed-padded, pack-unpack}
 use Rattle.table.proofs.TextLaws.{scan, ends-inside, Forth, byte-forth, SeriesByte, more-bytes}
 use Rattle.table.proofs.RowText.{Bounded, columns-bounded, painted-length, painted-all, meaning-known, meaning-below}
@@ -219,82 +220,6 @@ known-value s k v q e h = subst (ReadsAs s) h (line-reads s (skipAt s 0))
 pub known-range : (s : List ℕ) (k : Key) (v : Value) (q e : ℕ) → lineOf s ≡ Known k v q e → InRange v
 known-range s k v q e h = subst InRange (sym (known-value s k v q e h)) (value-ranges k (take (e - q) (drop q s)))
 
--- conditions in the order of their numbers
-abbrev pub byNumber : Cond → Cond → Bool
-byNumber a b = ltb (numberOf (a .refusal)) (numberOf (b .refusal))
-
-number-trans : (a b c : Cond) → byNumber a b ≡ true → byNumber b c ≡ true → byNumber a c ≡ true
-number-trans a b c p q =
-    let x = ltb-true (numberOf (a .refusal)) (numberOf (b .refusal)) p in
-    let y = ltb-true (numberOf (b .refusal)) (numberOf (c .refusal)) q in
-    lt-ltb (numberOf (a .refusal)) (numberOf (c .refusal)) (omega arith)
-
-pub key-rises : (lim : Limits) (h : Head) (k : Key) (v : Value) → Rising byNumber (keyConditions lim h k v)
-unfolding keyConditions rises risesFrom
-key-rises lim h k v = rises-is byNumber number-trans (keyConditions lim h k v) refl
-
-pub charmap-rises : (h : Head) (rows : List (List ℕ)) → Rising byNumber (charmapConditions h rows)
-unfolding charmapConditions rises risesFrom
-charmap-rises h rows = rises-is byNumber number-trans (charmapConditions h rows) refl
-
-pub mapping-rises : (lim : Limits) (h : Head) (rows : List (List ℕ)) (ls : List Mapping) (l : Mapping) → Rising byNumber (mappingConditions lim h rows ls l)
-unfolding mappingConditions rises risesFrom
-mapping-rises lim h rows ls l = rises-is byNumber number-trans (mappingConditions lim h rows ls l) refl
-
-abbrev refusedBy : Refusal → Verdict → Refusal
-refusedBy r Fine = r
-refusedBy r (Refuse x) = x
-
-refused-by : {a b : Refusal} → Refuse a ≡ Refuse b → a ≡ b
-refused-by {a} e = ap (refusedBy a) e
-
-abbrev isFine : Verdict → Bool
-isFine Fine = true
-isFine (Refuse x) = false
-
-refuse-fine : (r : Refusal) → Refuse r ≡ Fine → ⊥
-refuse-fine r e = clash (ap isFine e) refl
-
--- Fine exactly when no condition holds
-pub lowest-none : (t : List Cond) → lowest t ≡ Fine → All (λ c. c .holds ≡ false) t
-unfolding lowest
-lowest-none [] e = tt
-lowest-none (c ∷ t) e = go (c .holds) refl (lowest-none t) e
-  where
-    go : (b : Bool) → c .holds ≡ b → (lowest t ≡ Fine → All (λ d. d .holds ≡ false) t) → pick b (Refuse (c .refusal)) (lowest t) ≡ Fine → All (λ d. d .holds ≡ false) (c ∷ t)
-    go true p ih e = absurd (refuse-fine (c .refusal) e)
-    go false p ih e = (p, ih e)
-
-pub none-lowest : (t : List Cond) → All (λ c. c .holds ≡ false) t → lowest t ≡ Fine
-unfolding lowest
-none-lowest [] h = refl
-none-lowest (c ∷ t) h = rw (h .0) (none-lowest t (h .1))
-
--- what is refused is a condition of the table, and it holds
-pub lowest-holds : (t : List Cond) (r : Refusal) → lowest t ≡ Refuse r → In (cond r true) t
-unfolding lowest
-lowest-holds [] r e = absurd (refuse-fine r (sym e))
-lowest-holds (c ∷ t) r e = go (c .holds) refl (lowest-holds t r) e
-  where
-    go : (b : Bool) → c .holds ≡ b → (lowest t ≡ Refuse r → In (cond r true) t) → pick b (Refuse (c .refusal)) (lowest t) ≡ Refuse r → In (cond r true) (c ∷ t)
-    go true p ih e = inl (sym (λ i. cond (refused-by e i) (p i)))
-    go false p ih e = inr (ih e)
-
--- and no condition with a lower number holds
-pub lowest-least : (t : List Cond) → Rising byNumber t → (r : Refusal) → lowest t ≡ Refuse r → (c : Cond) → In c t → c .holds ≡ true → numberOf r ≤ numberOf (c .refusal)
-unfolding lowest
-lowest-least [] h r e c i p = absurd i
-lowest-least (d ∷ t) h r e c i p = go (d .holds) refl (lowest-least t (h .1) r) e i
-  where
-    first : d .refusal ≡ r → In c (d ∷ t) → numberOf r ≤ numberOf (c .refusal)
-    first f (inl j) = let n : numberOf r ≡ numberOf (c .refusal) = sym (ap numberOf f) ∙ sym (ap (λ (x : Cond). numberOf (x .refusal)) j) in omega arith
-    first f (inr j) = let n = ltb-true (numberOf (d .refusal)) (numberOf (c .refusal)) (all-in (λ x. byNumber d x ≡ true) c t (h .0) j) in let m : numberOf (d .refusal) ≡ numberOf r = ap numberOf f in omega arith
-
-    go : (b : Bool) → d .holds ≡ b → (lowest t ≡ Refuse r → (x : Cond) → In x t → x .holds ≡ true → numberOf r ≤ numberOf (x .refusal)) → pick b (Refuse (d .refusal)) (lowest t) ≡ Refuse r → In c (d ∷ t) → numberOf r ≤ numberOf (c .refusal)
-    go true q ih e j = first (refused-by e) j
-    go false q ih e (inl j) = absurd (clash (sym (ap (λ (x : Cond). x .holds) j) ∙ p) q)
-    go false q ih e (inr j) = ih e c j p
-
 -- a row that is let through finds room
 over-room : (lim : Limits) (rows : ℕ) (v : Value) → isRow v ≡ true → n15 lim rows v ≡ false → leb (lim .rows) rows ≡ false
 unfolding isRow n15 rowOver
@@ -315,7 +240,7 @@ over-room lim rows (Row w l o) r e = or-right o (leb (lim .rows) rows) e
 
 pub row-room : (h : Head) (k : Key) (v : Value) → lowest (keyConditions limits h k v) ≡ Fine → isRow v ≡ true → h .rows < 16
 unfolding keyConditions
-row-room h k v e r = leb-false 16 (h .rows) (over-room limits (h .rows) v r (lowest-none (keyConditions limits h k v) e .1 .1 .1 .0))
+row-room h k v e r = leb-false 16 (h .rows) (over-room limits (h .rows) v r (lowest-fine (keyConditions limits h k v) e .1 .1 .1 .0))
 
 -- the rows with a value's row behind them
 pub keep-row : (v : Value) (s : List ℕ) (rows : List (List ℕ)) → keepRow v s rows ≡ pick (isRow v) (rows ++ (rowOf (columnsOf s) ∷ [])) rows

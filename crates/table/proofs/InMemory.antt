@@ -21,7 +21,8 @@ use Rattle.table.specs.Entry.{entryOf, lineIn, less}
 use Rattle.table.specs.Memory.{sorted, filled, sub1In, recordOf, pieces, tableIn, Form, Proper}
 use Rattle.table.specs.declared.valid.Record.{Record}
 use Rattle.table.proofs.Packing.{unpack}
-use Rattle.table.proofs.LineLaws.{GoodLine, line-entry, keeps-good, form-held, same-is, is-same}
+use Rattle.table.specs.Progress.{GoodLine}
+use Rattle.table.proofs.LineLaws.{line-entry, keeps-good, form-held, same-is, is-same}
 use Rattle.table.proofs.ValidLaws.{SameTable, sub-length, back-sub1}
 
 -- rows put one behind the other, and cut again

@@ -24,6 +24,7 @@ use Rattle.table.specs.Rules.{allOf, anyOf, Keeps, t1Sizes, t5, t5Kind, 
 use Rattle.table.specs.Entry.{Entry, mk, pointIn, rankIn, extraIn, rankOf, indicatorIn, entryOf, lineIn, padded, entryOk, less, readsEntry, writesEntry, readClash, writeClash, Apart, AllApart}
 use Rattle.table.specs.Memory.{entries, sorted, sub1In, recordOf, Form, Proper, ProperLine}
 use Rattle.table.specs.Search.{readsCode, writesPoint, foundOf, readOf, writeOf, readTaken, writeTaken}
+use Rattle.table.specs.Progress.{GoodLine}
 use Rattle.table.specs.Valid.{lineOk, Kept}
 use Rattle.table.specs.declared.valid.Record.{Record}
 use Rattle.table.specs.declared.store.Found.{Found}
@@ -209,13 +210,6 @@ t6-small l h = go (ltb (l .point) 0xd800) refl (ltb (l .point) 0xe000) h
     go false p true e = absurd (clash e refl)
     go false p false e = let a = leb-true (l .point) 0x10ffff e in omega arith
 
--- a line that can be stored: of a text, with a code of 1 to 4 bytes and a code point
-pub record GoodLine (l : Line) : Type 0 where
-  pub proper : ProperLine l
-  pub least : 1 ≤ length (l .code)
-  pub most : length (l .code) ≤ 4
-  pub point-ok : t6 l ≡ true
-
 -- the parts of what is stored
 abbrev infoFor : Line → ℕ
 infoFor l = l .point + 2097152 * rankOf (l .indicator) + 16777216 * (length (l .code) - 1)
@@ -225,24 +219,24 @@ parts-of p r x h k = (omega arith, omega arith, omega arith)
 
 module _ (l : Line) (g : GoodLine l) where
   parts : (pointIn (infoFor l) ≡ l .point) × (rankIn (infoFor l) ≡ rankOf (l .indicator)) × (extraIn (infoFor l) ≡ length (l .code) - 1)
-  parts = parts-of (l .point) (rankOf (l .indicator)) (length (l .code) - 1) (t6-small l (g .point-ok)) (rank-small (l .indicator))
+  parts = parts-of (l .point) (rankOf (l .indicator)) (length (l .code) - 1) (t6-small l (g .scalar)) (rank-small (l .indicator))
 
   pub line-entry : lineIn (entryOf l) ≡ l
   unfolding lineIn entryOf
   line-entry =
-      let n : length (l .code) - 1 + 1 ≡ length (l .code) = let h = g .least in omega arith in
+      let n : length (l .code) - 1 + 1 ≡ length (l .code) = let h = g .some-bytes in omega arith in
       let c : unpacked (extraIn (infoFor l) + 1) (packed (l .code)) ≡ l .code =
-      ap (λ (k : ℕ). unpacked (k + 1) (packed (l .code))) (parts .2) ∙ ap (λ (k : ℕ). unpacked k (packed (l .code))) n ∙ unpack (l .code) (g .proper .bytes) (g .most) in
+      ap (λ (k : ℕ). unpacked (k + 1) (packed (l .code))) (parts .2) ∙ ap (λ (k : ℕ). unpacked k (packed (l .code))) n ∙ unpack (l .code) (g .proper .bytes) (g .few-bytes) in
       let d : indicatorIn (rankIn (infoFor l)) ≡ l .indicator = ap indicatorIn (parts .1) ∙ rank-back (l .indicator) (g .proper .digit) in
       (λ i. record { point = parts .0 i; code = c i; indicator = d i })
 
   pub entry-of-ok : entryOk (entryOf l) ≡ true
   unfolding entryOk entryOf
   entry-of-ok =
-      let n : extraIn (infoFor l) + 1 ≡ length (l .code) = let h = g .least in let q = parts .2 in omega arith in
+      let n : extraIn (infoFor l) + 1 ≡ length (l .code) = let h = g .some-bytes in let q = parts .2 in omega arith in
       both (leb (rankIn (infoFor l)) 3) _
       (le-leb (rankIn (infoFor l)) 3 (let q = parts .1 in let h = rank-small (l .indicator) in omega arith))
-      (ap (λ (k : ℕ). padded k (packed (l .code))) n ∙ packed-padded (l .code) (g .proper .bytes) (g .least) (g .most))
+      (ap (λ (k : ℕ). padded k (packed (l .code))) n ∙ packed-padded (l .code) (g .proper .bytes) (g .some-bytes) (g .few-bytes))
 
 pub entry-line : (e : Entry) → entryOk e ≡ true → entryOf (lineIn e) ≡ e
 unfolding lineIn entryOf
@@ -264,9 +258,9 @@ good-stored e h b p =
     let q = length-unpacked (extraIn (e .info) + 1) (e .bits) in
     record {
       proper = record { bytes = unpacked-bytes (extraIn (e .info) + 1) (e .bits) b; digit = indicator-small (rankIn (e .info)) };
-      least = omega (arith, n .0);
-      most = omega (arith, n .1);
-      point-ok = p;
+      some-bytes = omega (arith, n .0);
+      few-bytes = omega (arith, n .1);
+      scalar = p;
     }
 
 -- the same bytes
@@ -365,7 +359,7 @@ module _ (a b : Line) (g : GoodLine a) (h : GoodLine b) where
   pub shares-bytes : sharesBytes a b ≡ readClash (entryOf a) (entryOf b)
   unfolding readClash
   shares-bytes =
-      (λ t. pick (isRead a) (pick (isRead b) (same-packed (a .code) (b .code) (g .proper .bytes) (h .proper .bytes) (g .least) (g .most) (h .least) t) false) false)
+      (λ t. pick (isRead a) (pick (isRead b) (same-packed (a .code) (b .code) (g .proper .bytes) (h .proper .bytes) (g .some-bytes) (g .few-bytes) (h .some-bytes) t) false) false)
       ∙ four-shift (eqb (packed (a .code)) (packed (b .code))) (eqb (length (a .code) - 1) (length (b .code) - 1)) (isRead a) (isRead b)
       ∙ sym (λ t. pick (eqb (entry-bits a g t) (entry-bits b h t)) (pick (eqb (entry-extra a g t) (entry-extra b h t)) (pick (entry-reads a g t) (entry-reads b h t) false) false) false)
 
@@ -469,9 +463,9 @@ keeps-good lim t p k =
     (all-in (λ x. t8 (t .subchar1) x ≡ true) l (t .lines) (all-true (t8 (t .subchar1)) (t .lines) (k .rule8)) i) in
     record {
       proper = all-in ProperLine l (t .lines) (p .lines-proper) i;
-      least = n .0;
-      most = n .1;
-      point-ok = all-in (λ x. t6 x ≡ true) l (t .lines) (all-true t6 (t .lines) (k .rule6)) i;
+      some-bytes = n .0;
+      few-bytes = n .1;
+      scalar = all-in (λ x. t6 x ≡ true) l (t .lines) (all-true t6 (t .lines) (k .rule6)) i;
     })
 
 -- the line that is found, as it is stored
@@ -505,7 +499,7 @@ module _ (l : Line) (g : GoodLine l) where
   reads-line c a h =
       (λ t. pick (eqb (entry-bits l g t) (packed c)) (pick (eqb (entry-extra l g t) (length c - 1)) (entry-reads l g t) false) false)
       ∙ read-shift (eqb (packed (l .code)) (packed c)) (eqb (length (l .code) - 1) (length c - 1)) (isRead l)
-      ∙ sym (λ t. pick (isRead l) (same-packed (l .code) c (g .proper .bytes) a (g .least) (g .most) h t) false)
+      ∙ sym (λ t. pick (isRead l) (same-packed (l .code) c (g .proper .bytes) a (g .some-bytes) (g .few-bytes) h t) false)
 
   writes-line : (u : ℕ) → writesPoint u (entryOf l) ≡ pick (isWritten l) (eqb (l .point) u) false
   unfolding writesPoint

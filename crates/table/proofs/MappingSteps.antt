@@ -38,8 +38,8 @@ use Rattle.table.proofs.Packing.{packed-fits, unpack}
 use Rattle.table.proofs.Sorted.{order-length, sorted-rising, sorted-apart}
 use Rattle.table.proofs.Inserted.{free-next, next-held, sorted-more}
 use Rattle.table.proofs.StoreLaws.{held-is}
-use Rattle.table.proofs.LineLaws.{GoodLine as Storable, shares-bytes, shares-point, t9-apart, entry-point}
-use Rattle.table.proofs.HeaderLaws.{lowest-none}
+use Rattle.table.proofs.LineLaws.{shares-bytes, shares-point, t9-apart, entry-point}
+use Rattle.table.proofs.LowestLaws.{lowest-fine}
 use Rattle.table.proofs.LineSteps.{fine-taken}
 use Rattle.table.proofs.HeaderSteps.{steps-held}
 
@@ -153,15 +153,11 @@ module _ (step : Rows) (h : Head) (u d : ℕ) (c : List ℕ) (bits len : ℕ) (b
 pub refuse-fine : (x : Refusal) → Refuse x ≡ Fine → ⊥
 refuse-fine x e = let z : _≡_ {A = ℕ} 0 1 = cc in omega arith
 
--- lines of memory as lines that can be stored
-storable : (l : Line) → GoodLine l → Storable l
-storable l g = record { proper = g .proper; least = g .some-bytes; most = g .few-bytes; point-ok = g .scalar }
-
 pub point-small : (u : ℕ) → t6 (lineAs u [] 0) ≡ true → u < 2097152
 unfolding AllByte
 point-small u h =
     let l = lineAs u (0 ∷ []) 0 in
-    let q = entry-point l (record { proper = record { bytes = (omega arith, tt); digit = omega arith }; least = omega arith; most = omega arith; point-ok = h }) in
+    let q = entry-point l (record { proper = record { bytes = (omega arith, tt); digit = omega arith }; some-bytes = omega arith; few-bytes = omega arith; scalar = h }) in
     omega arith
 
 -- an entry that is tested for, among lines and among what is stored of them
@@ -207,8 +203,8 @@ fine-first false b c d e = absurd (refuse-fine NoScalar e)
 
 -- the memory behind CHARMAP, and one mapping more
 module _ (h : Head) (n : ℕ) (rows : List (List ℕ)) (ls : List Line) (s c i o : List ℕ) (held : Holding limits h n rows ls s c i o) where
-  goods : All Storable ls
-  goods = all-map storable ls (held .lines-good)
+  goods : All GoodLine ls
+  goods = held .lines-good
 
   pub held-kept : Kept 2048 n c i o
   held-kept =
@@ -255,13 +251,13 @@ module _ (h : Head) (n : ℕ) (rows : List (List ℕ)) (ls : List Line) (s c i o
       reads-taken : n24 ls l ≡ readTaken (entryOf l) held-now
       unfolding n24 readTaken
       reads-taken =
-          any-lines (λ x. sharesBytes x l) (λ x. readClash x (entryOf l)) ls (all-map (λ x (g : Storable x). shares-bytes x l g (storable l good)) ls goods)
+          any-lines (λ x. sharesBytes x l) (λ x. readClash x (entryOf l)) ls (all-map (λ x (g : GoodLine x). shares-bytes x l g good) ls goods)
           ∙ sym (any-sort (λ x. readClash x (entryOf l)) (map entryOf ls)) ∙ ap (λ (es : List Entry). anyOf (λ x. readClash x (entryOf l)) es) (sym held-entries)
 
       writes-taken : n25 ls l ≡ writeTaken (entryOf l) held-now
       unfolding n25 writeTaken
       writes-taken =
-          any-lines (λ x. sharesPoint x l) (λ x. writeClash x (entryOf l)) ls (all-map (λ x (g : Storable x). shares-point x l g (storable l good)) ls goods)
+          any-lines (λ x. sharesPoint x l) (λ x. writeClash x (entryOf l)) ls (all-map (λ x (g : GoodLine x). shares-point x l g good) ls goods)
           ∙ sym (any-sort (λ x. writeClash x (entryOf l)) (map entryOf ls)) ∙ ap (λ (es : List Entry). anyOf (λ x. writeClash x (entryOf l)) es) (sym held-entries)
 
       pub added-is : (e : Entry) (v : Verdict) → e ≡ entryOf l
@@ -279,7 +275,7 @@ module _ (h : Head) (n : ℕ) (rows : List (List ℕ)) (ls : List Line) (s c i o
           → Taken limits (judged (lowest (mappingConditions limits h rows ls l)) (reading Mappings h rows (l ∷ ls))) (outcome.On (progress Mappings h (n + 1))) s c′ i′ o′
       unfolding mappingConditions n24 n25 t9
       more-taken e c′ i′ o′ q v k ins =
-          let none = lowest-none (mappingConditions limits h rows ls l) v in
+          let none = lowest-fine (mappingConditions limits h rows ls l) v in
           let es : k .es ≡ sorted (l ∷ ls) = sym (held-is 2048 (n + 1) c′ i′ o′ k) ∙ ins ∙ (λ t. insert less (q t) (held-entries t)) ∙ sym (sorted-more l ls) in
           let m = held .lines-count in
           let count : n + 1 ≡ length (l ∷ ls) = omega arith in

@@ -22,10 +22,11 @@ use Rattle.table.specs.Meaning.{Line, Table, flat, stepsOf}
 use Rattle.table.specs.Rules.{allOf, Keeps, t2Row, t1Rows, t1Lines, t1Sizes, t3, t4Sub, t4Sub1, t5, t6, t7, t8}
 use Rattle.table.specs.Entry.{Entry, bitsOf, infoOf, padded, entryOk, entryOf, lineIn, less, readNext, AllApart}
 use Rattle.table.specs.Memory.{entries, sorted, orderOf, filled, known, sub1Of, sub1In, recordOf, Stored, Form, Proper, pieces, tableIn}
+use Rattle.table.specs.Progress.{GoodLine}
 use Rattle.table.specs.Valid.{zeros, stateOk, statesOk, recordOk, lineOk, ordered, storeOk, valid, Kept}
 use Rattle.table.specs.declared.valid.Record.{Record}
 use Rattle.table.proofs.Depth.{StatesKept, states-kept, short-code}
-use Rattle.table.proofs.LineLaws.{all-true, true-all, GoodLine, good-stored, entry-line, t9-apart, apart-t9, line-entry, entry-of-ok, keeps-good, form-kept, form-held}
+use Rattle.table.proofs.LineLaws.{all-true, true-all, good-stored, entry-line, t9-apart, apart-t9, line-entry, entry-of-ok, keeps-good, form-kept, form-held}
 use Rattle.table.proofs.RowLaws.{filled-steps, length-flat}
 use Rattle.table.proofs.Packing.{unpack, packed-padded, pack-one-way, unpacked-bytes, pack-unpack, length-unpacked}
 use Rattle.table.proofs.EntryLaws.{less-irrefl, less-trans}
@@ -453,7 +454,7 @@ module _ (t : Table) (p : Proper t) (k : Keeps limits t) (rec : Record) (states 
       kept-line (stepsOf t) (recordOf t) (entryOf l) (record {
         formed = entry-of-ok l g;
         keeps-5 = subst (λ (x : Line). t5 (stepsOf t) (t .min) (t .max) x ≡ true) (sym e) h5;
-        keeps-6 = subst (λ (x : Line). t6 x ≡ true) (sym e) (g .point-ok);
+        keeps-6 = subst (λ (x : Line). t6 x ≡ true) (sym e) (g .scalar);
         keeps-7 = subst (λ (x : Line). t7 x ≡ true) (sym e) h7;
         keeps-8 = subst (λ (o : Option ℕ). t8 o (lineIn (entryOf l)) ≡ true) (sym (back-sub1 (t .subchar1))) (subst (λ (x : Line). t8 (t .subchar1) x ≡ true) (sym e) h8);
       })
