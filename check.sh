@@ -1,5 +1,5 @@
 #!/usr/bin/env bash
-# All tests: the layout of the sources, every proof from nothing, every must-fail edit, every program.
+# All tests: the layout of the sources, every proof from nothing, every must-fail edit, every program, the tests from outside.
 # Each part's time is printed. The last line is `N passed, M failed`, with every proof, edit, program and test counted.
 set -u
 cd "$(dirname "$0")" || exit 2

@@ -13,3 +13,8 @@ pub mod First
 pub mod Paging
 pub mod Pairs
 pub mod Front
+pub mod Stores
+pub mod Cursors
+pub mod AllPlaces
+pub mod PageLoop
+pub mod NotedPages

@@ -5,7 +5,7 @@ use mathlib.Core.Path.{_≡_}
 use mathlib.Core.Bool.{Bool, true, false, not}
 use mathlib.Core.Logic.{_↔_, _⊎_}
 use mathlib.Core.Option.{Option, none, some}
-use mathlib.Core.List.{List, [], _∷_, _++_, head?}
+use mathlib.Core.List.{List, [], _∷_, _++_, map, head?}
 use lib.ListN.{length}
 use Rattle.lists.specs.Pick.{pick}
 use Rattle.lists.specs.Order.{All, In, Rising}
@@ -29,6 +29,10 @@ pub record Page (E P : Type 0) : Type 0 where
 -- the same page with its position told in another way
 abbrev pub toldBy : {E P Q : Type 0} → (P → Q) → Page E P → Page E Q
 toldBy g a = record { entries = a .entries; count = a .count; position = g (a .position); finished = a .finished }
+
+-- the same page with its entries told in another way
+abbrev pub notedBy : {E F P : Type 0} → (E → F) → Page E P → Page F P
+notedBy f a = record { entries = map f (a .entries); count = a .count; position = a .position; finished = a .finished }
 
 -- how many elements a call may look at, and how many entries it has space for
 pub record Call : Type 0 where

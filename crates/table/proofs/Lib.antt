@@ -35,3 +35,4 @@ pub mod HeaderSteps
 pub mod MappingSteps
 pub mod RunSteps
 pub mod LoadLaws
+pub mod Hits

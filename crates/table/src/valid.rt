@@ -73,7 +73,7 @@ fn write_next(c: u32, i: u32, d: u32, j: u32) -> bool
 }
 
 // Unused places behind the bytes of a code are zero, and it has 1 to 4.
-fn is_padded(len: u32, bits: u32) -> bool
+pub fn is_padded(len: u32, bits: u32) -> bool
     ensures { λ r. ⌜ r ≡ padded len bits ⌝ }
 {
     if len == 1 {

@@ -1,0 +1,98 @@
+-- What each cause says. 0: the code reads as a code point that is written as the same code.
+use Prim.Native.Nat.{ℕ, suc}
+use native.Mathlib.Omega.{arith}
+use mathlib.Core.Path.{_≡_, refl, ap, _∙_}
+use mathlib.Core.Bool.{Bool, true, false}
+use mathlib.Core.Logic.{_↔_}
+use mathlib.Core.Option.{Option, none, some}
+use mathlib.Core.List.{List}
+use lib.Dec.{eqb}
+use borrow.Author.Tests.{eq-eqb, ne-eqb}
+use Rattle.lists.specs.Pick.{pick}
+use Rattle.lists.proofs.Laws.{not-yes}
+use Rattle.table.specs.States.{endKind}
+use Rattle.table.specs.Meaning.{Line, Table, stepsOf, same, reader}
+use Rattle.table.proofs.LineLaws.{same-is, is-same}
+use Rattle.convert.specs.Step.{Written, code, subchar1, nothing, writes}
+use Rattle.audit.specs.Audit.{backBy, backOf, causeBy, causeOf}
+
+-- the line that reads a code, and that its code point is written as the code again
+abbrev pub Home : Table → Bool → List ℕ → Type 0
+Home t fallback c = (l : Line) × (reader c (t .lines) ≡ some l) × (writes t fallback (l .point) ≡ code c)
+
+low-cause : (u : Bool) (n : ℕ) → _≡_ {A = ℕ} (pick u 1 (suc n)) 0 → ⊥
+low-cause true n e = omega arith
+low-cause false n e = omega arith
+
+module _ (t : Table) (fallback : Bool) (c : List ℕ) where
+  written-home : (u : Bool) (w : Written) → causeBy c u (backBy w) ≡ 0 → w ≡ code c
+  written-home u (code d) e = go (same d c) refl e
+    where
+      go : (b : Bool) → same d c ≡ b → _≡_ {A = ℕ} (pick b 0 (pick u 1 3)) 0 → code d ≡ code c
+      go true q e = ap code (same-is d c q)
+      go false q e = absurd (low-cause u 2 e)
+  written-home u subchar1 e = absurd (low-cause u 3 e)
+  written-home u nothing e = absurd (low-cause u 3 e)
+
+  zero-home : causeOf t fallback c ≡ 0 → Home t fallback c
+  unfolding causeOf
+  zero-home e = go (reader c (t .lines)) refl e
+    where
+      u : Bool
+      u = eqb (endKind (stepsOf t) 0 c) 3
+
+      go : (o : Option Line) → reader c (t .lines) ≡ o → causeBy c u (backOf t fallback o) ≡ 0 → Home t fallback c
+      go none q e = absurd (low-cause u 1 e)
+      go (some l) q e = (l, q, written-home u (writes t fallback (l .point)) e)
+
+  home-zero : Home t fallback c → causeOf t fallback c ≡ 0
+  unfolding causeOf
+  home-zero h =
+      (λ i. causeBy c (eqb (endKind (stepsOf t) 0 c) 3) (backOf t fallback (h .1 i)))
+      ∙ (λ i. causeBy c (eqb (endKind (stepsOf t) 0 c) 3) (backBy (h .2 i)))
+      ∙ ap (λ (b : Bool). pick b 0 (pick (eqb (endKind (stepsOf t) 0 c) 3) 1 3)) (is-same c)
+
+  pub cause-home : (causeOf t fallback c ≡ 0) ↔ Home t fallback c
+  cause-home = (zero-home, home-zero)
+
+  -- 1: it does not round-trip and is ended by `u`
+  pub cause-one : (Home t fallback c → ⊥) → endKind (stepsOf t) 0 c ≡ 3 → causeOf t fallback c ≡ 1
+  unfolding causeOf
+  cause-one h k = ap (λ (b : Bool). causeBy c b (backOf t fallback (reader c (t .lines)))) (eq-eqb (endKind (stepsOf t) 0 c) 3 k) ∙ go (reader c (t .lines)) refl
+    where
+      other : (l : Line) → reader c (t .lines) ≡ some l → (w : Written) → writes t fallback (l .point) ≡ w → causeBy c true (backBy w) ≡ 1
+      other l q (code d) e = ap (λ (b : Bool). pick b 0 1) (not-yes (same d c) (λ s. h (l, q, e ∙ ap code (same-is d c s))))
+      other l q subchar1 e = refl
+      other l q nothing e = refl
+
+      go : (o : Option Line) → reader c (t .lines) ≡ o → causeBy c true (backOf t fallback o) ≡ 1
+      go none q = refl
+      go (some l) q = other l q (writes t fallback (l .point)) refl
+
+  -- the others, of a code that is not ended by `u`
+  module _ (k : endKind (stepsOf t) 0 c ≡ 3 → ⊥) where
+    not-ended : eqb (endKind (stepsOf t) 0 c) 3 ≡ false
+    not-ended = ne-eqb (endKind (stepsOf t) 0 c) 3 k
+
+    -- 2: no line reads it
+    pub cause-two : reader c (t .lines) ≡ none → causeOf t fallback c ≡ 2
+    unfolding causeOf
+    cause-two q = (λ i. causeBy c (not-ended i) (backOf t fallback (q i)))
+
+    -- 3: it reads, but is written as another code
+    pub cause-three : (l : Line) (d : List ℕ) → reader c (t .lines) ≡ some l → writes t fallback (l .point) ≡ code d → (d ≡ c → ⊥) → causeOf t fallback c ≡ 3
+    unfolding causeOf
+    cause-three l d q e h =
+        (λ i. causeBy c (not-ended i) (backOf t fallback (q i)))
+        ∙ (λ i. causeBy c false (backBy (e i)))
+        ∙ ap (λ (b : Bool). pick b 0 3) (not-yes (same d c) (λ s. h (same-is d c s)))
+
+    -- 4: it reads, but is not written
+    pub cause-four : (l : Line) → reader c (t .lines) ≡ some l → ((d : List ℕ) → writes t fallback (l .point) ≡ code d → ⊥) → causeOf t fallback c ≡ 4
+    unfolding causeOf
+    cause-four l q h = (λ i. causeBy c (not-ended i) (backOf t fallback (q i))) ∙ go (writes t fallback (l .point)) refl
+      where
+        go : (w : Written) → writes t fallback (l .point) ≡ w → causeBy c false (backBy w) ≡ 4
+        go (code d) e = absurd (h d e)
+        go subchar1 e = refl
+        go nothing e = refl

@@ -1,0 +1,11 @@
+pub mod CodePages
+pub mod Causes
+pub mod HeldTable
+pub mod Demand3
+pub mod Starred
+pub mod ValidMemory
+pub mod FoundCauses
+pub mod Steps
+pub mod Tests
+pub mod EntryNumbers
+pub mod Tied

@@ -1,0 +1,71 @@
+-- A code's bytes into a number and out of it.
+use mathlib.Core.Path.{_≡_, refl, sym, _∙_}
+use Prim.Native.Nat.{ℕ, zero, suc, _+_, _-_, _*_, _/_, _%_, _≤_, _<_}
+use mathlib.Core.List.{List}
+use mathlib.Core.Bool.{true, false}
+use native.Mathlib.Omega.{arith}
+use native.Mathlib.Numerals.{add-one}
+use borrow.Author.Tests.{le-leb, lt-leb, leb-true, leb-false}
+use lib.ListN.{length, getD, take, drop, set, drop-of-length-le}
+use lib.Seq.{length-take-le, getD-take, sets, sets-eq}
+use Rattle.lists.specs.Pick.{pick}
+use Rattle.lists.specs.Place.{fits, placed}
+use Rattle.lists.proofs.Laws.{drop-step}
+use Rattle.table.specs.Codes.{packed, unpacked}
+use Rattle.table.proofs.Packing.{length-unpacked}
+
+-- packing from the last byte to the first
+pub pack-start : (s : List ℕ) (n : ℕ) → n ≤ length s → 0 ≡ packed (drop n (take n s))
+unfolding packed
+pack-start s n h =
+    let e : length (take n s) ≡ n = length-take-le n s h in
+    let l : length (take n s) ≤ n = omega arith in
+    rw (drop-of-length-le (take n s) l)
+
+pub pack-step : (s : List ℕ) (n i : ℕ) → 0 < i → i ≤ n → n ≤ length s
+    → getD s (i - 1) 0 * 16777216 + packed (drop i (take n s)) / 256 ≡ packed (drop (i - 1) (take n s))
+unfolding packed
+pack-step s n i p q h =
+    let e : length (take n s) ≡ n = length-take-le n s h in
+    let j : i - 1 + 1 ≡ i = omega arith in
+    rw (drop-step (take n s) (i - 1) (omega arith), getD-take n s (i - 1) 0 (omega arith), j)
+
+pub pack-end : (s : List ℕ) (n i : ℕ) → i ≤ 0 → packed (drop i (take n s)) ≡ packed (take n s)
+pack-end s n zero h = refl
+pack-end s n (suc i) h = absurd (omega arith)
+
+-- a turn: one more byte is stored
+pub put-one : (out : List ℕ) (i k v : ℕ) → 0 < k → sets out i (unpacked k v) ≡ sets (set out i (v / 16777216)) (i + 1) (unpacked (k - 1) (v % 16777216 * 256))
+unfolding unpacked
+put-one out i zero v h = absurd (omega arith)
+put-one out i (suc k) v h =
+    let e : suc k - 1 ≡ k = omega arith in
+    rw (e, add-one i)
+
+pub put-none : (out : List ℕ) (i k v : ℕ) → k ≤ 0 → sets out i (unpacked k v) ≡ out
+unfolding unpacked
+put-none out i zero v h = refl
+put-none out i (suc k) v h = absurd (omega arith)
+
+module _ (out : List ℕ) (at n v : ℕ) where
+  -- no room: nothing is put
+  pub full : length out < at + n → (false ≡ fits out at (unpacked n v)) × (out ≡ pick (fits out at (unpacked n v)) (placed out at (unpacked n v)) out)
+  full h =
+      let e = length-unpacked n v in
+      let t = lt-leb (at + length (unpacked n v)) (length out) (omega arith) in
+      (sym t, simp t)
+
+  pub done : at + n ≤ length out
+      → (true ≡ fits out at (unpacked n v)) × (sets out at (unpacked n v) ≡ pick (fits out at (unpacked n v)) (placed out at (unpacked n v)) out)
+  done h =
+      let e = length-unpacked n v in
+      let t = le-leb (at + length (unpacked n v)) (length out) (omega arith) in
+      (sym t, simp t (sets-eq (unpacked n v) out at (omega arith)))
+
+  -- what the answer says
+  module _ (new : List ℕ) (is : new ≡ pick (fits out at (unpacked n v)) (placed out at (unpacked n v)) out) where
+    pub was-full : fits out at (unpacked n v) ≡ false → (length out < at + length (unpacked n v)) × (new ≡ out)
+    was-full t = (leb-false (at + length (unpacked n v)) (length out) t, is ∙ simp t)
+
+    pub was-put : fits out at (unpacked n v) ≡ true → (at + length (unpacked n v) ≤ length out) × (new ≡ placed out at (unpacked n v))
+    was-put t = (leb-true (at + length (unpacked n v)) (length out) t, is ∙ simp t)

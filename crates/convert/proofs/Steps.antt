@@ -1,0 +1,192 @@
+-- UTF-8 is a lawful Unicode side; both steps are sound: what they give has some bytes, lies in the input and stays under
+-- more input; and what is read towards Unicode is a scalar value.
+use mathlib.Core.Path.{_≡_, refl, sym, ap, subst, _∙_}
+use Prim.Native.Nat.{ℕ, _+_, _≤_, _<_}
+use mathlib.Core.List.{List, _++_}
+use mathlib.Core.Bool.{Bool, true, false}
+use mathlib.Core.Option.{Option, none, some}
+use native.Mathlib.Omega.{arith}
+use borrow.Author.Tests.{ltb-true, ltb-false, leb-true}
+use lib.Dec.{ltb, eqb}
+use lib.ListN.{length, take}
+use lib.Seq.{take-append-le}
+use Rattle.lists.proofs.Laws.{clash}
+use Rattle.lists.proofs.Cases.{pick-case}
+use Rattle.unicode.specs.Utf8.{Scalar}
+use Rattle.unicode.specs.declared.utf8.Stop.{Stop}
+use Rattle.unicode.specs.declared.utf8.Sequence.{Sequence}
+use Rattle.unicode.specs.declared.utf8.Sequence.the-variants as sequence
+use Rattle.unicode.proofs.Puts.{length-encode}
+use Rattle.unicode.proofs.RoundTrip.{utf8-encode-decode, reads-within}
+use Rattle.unicode.proofs.MoreInput.{more-input-same}
+use Rattle.table.specs.States.{longest, cutOf}
+use Rattle.table.specs.Meaning.{Line, Table, stepsOf, flat, reader}
+use Rattle.table.specs.Rules.{allOf, t6}
+use Rattle.table.specs.declared.states.Cut.{Cut}
+use Rattle.table.specs.declared.states.Cut.the-variants as cut
+use Rattle.table.specs.declared.states.Halt.the-variants as halt
+use Rattle.table.proofs.Cuts.{cut-complete, cut-more, no-ends-zero}
+use Rattle.table.proofs.LineLaws.{reader-keeps}
+use Rattle.convert.specs.Run.{give, stop, Sound}
+use Rattle.convert.specs.Step.{Side, utf8, substitutePoint, pointFor, onCut, toSequence, encoded, toStep, Written, code, subchar1, nothing, writes, sentFor, onSequence, fromStep}
+use Rattle.convert.specs.Claims.{Lawful}
+
+pub utf8-lawful : Lawful utf8
+utf8-lawful = record {
+  some = λ c. omega (arith, length-encode c);
+  put-reads = utf8-encode-decode;
+  scalar = λ s c n e. reads-within s c n e .scalar;
+  positive = λ s c n e. reads-within s c n e .some;
+  within = λ s c n e. reads-within s c n e .within;
+  grows = λ s t c n e. more-input-same s t (λ q. let z : _≡_ {A = ℕ} 0 1 = cc in omega arith) ∙ e;
+}
+
+-- TO UNICODE. A code point was read from a complete code of one to four bytes
+pub record ReadFrom (t : Table) (row : ℕ) (s : List ℕ) (n : ℕ) : Type 0 where
+  pub kind : ℕ
+  pub whole : cutOf (stepsOf t) row s ≡ cut.Complete n kind
+  pub some : 0 < n
+  pub inside : n ≤ length s
+  pub few : n ≤ longest
+
+point-count : (sub1 : Option ℕ) (substitute : Bool) (m : ℕ) (o : Option Line) (c n : ℕ) → pointFor sub1 substitute m o ≡ sequence.Scalar c n → m ≡ n
+point-count sub1 substitute m (some l) c n e = cc
+point-count sub1 true m none c n e = cc
+point-count sub1 false m none c n e = absurd (let z : _≡_ {A = ℕ} 0 1 = cc in omega arith)
+
+module _ (t : Table) (substitute : Bool) (row : ℕ) where
+  read-by : (s : List ℕ) (c n : ℕ) (x : Cut) → cutOf (stepsOf t) row s ≡ x → onCut t substitute s x ≡ sequence.Scalar c n → ReadFrom t row s n
+  read-by s c n (cut.Stopped halt.CutShort) q e = absurd (let z : _≡_ {A = ℕ} 0 1 = cc in omega arith)
+  read-by s c n (cut.Stopped (halt.Illegal k)) q e = absurd (let z : _≡_ {A = ℕ} 0 1 = cc in omega arith)
+  read-by s c n (cut.Complete m kind) q e =
+      let k = point-count (t .subchar1) substitute m (reader (take m s) (t .lines)) c n e in
+      let w : cutOf (stepsOf t) row s ≡ cut.Complete n kind = q ∙ ap (λ (j : ℕ). cut.Complete j kind) k in
+      let r = cut-complete (stepsOf t) longest row 0 s n kind (no-ends-zero (flat (t .rows))) w in
+      record { kind = kind; whole = w; some = r .some; inside = omega (arith, r .inside); few = omega (arith, r .few) }
+
+  pub read-from : (s : List ℕ) (c n : ℕ) → toSequence t substitute row s ≡ sequence.Scalar c n → ReadFrom t row s n
+  unfolding toSequence
+  read-from s c n e = read-by s c n (cutOf (stepsOf t) row s) refl e
+
+  -- a complete code, by the line that reads it
+  pub to-complete : (s : List ℕ) (n kind : ℕ) → cutOf (stepsOf t) row s ≡ cut.Complete n kind → toSequence t substitute row s ≡ pointFor (t .subchar1) substitute n (reader (take n s) (t .lines))
+  unfolding toSequence
+  to-complete s n kind q = ap (onCut t substitute s) q
+
+  to-more : (s rest : List ℕ) (c n : ℕ) → toSequence t substitute row s ≡ sequence.Scalar c n → toSequence t substitute row (s ++ rest) ≡ sequence.Scalar c n
+  to-more s rest c n e =
+      let r = read-from s c n e in
+      let w = r .whole in
+      let m = cut-more (stepsOf t) longest row 0 s rest (λ q. let z : _≡_ {A = ℕ} 0 1 = cc in omega arith) in
+      to-complete (s ++ rest) n (r .kind) (m ∙ w)
+      ∙ rw (take-append-le n s rest (r .inside)) (sym (to-complete s n (r .kind) w) ∙ e)
+
+  -- a code point, encoded
+  pub record Encoded (u : Side) (s bs : List ℕ) (n next : ℕ) : Type 0 where
+    pub point : ℕ
+    pub reads : toSequence t substitute row s ≡ sequence.Scalar point n
+    pub spelt : u .encode point ≡ bs
+    pub stays : row ≡ next
+
+  encoded-by : (u : Side) (s bs : List ℕ) (n next : ℕ) (x : Sequence) → toSequence t substitute row s ≡ x → encoded u row x ≡ give bs n next → Encoded u s bs n next
+  encoded-by u s bs n next (sequence.Stopped w) q e = absurd (let z : _≡_ {A = ℕ} 0 1 = cc in omega arith)
+  encoded-by u s bs n next (sequence.Scalar c m) q e =
+      let k : m ≡ n = cc in
+      record { point = c; reads = q ∙ ap (sequence.Scalar c) k; spelt = cc; stays = cc }
+
+  pub is-encoded : (u : Side) (s bs : List ℕ) (n next : ℕ) → toStep u t substitute row s ≡ give bs n next → Encoded u s bs n next
+  unfolding toStep
+  is-encoded u s bs n next e = encoded-by u s bs n next (toSequence t substitute row s) refl e
+
+  pub to-gives : (u : Side) (s : List ℕ) (x : Sequence) → toSequence t substitute row s ≡ x → toStep u t substitute row s ≡ encoded u row x
+  unfolding toStep
+  to-gives u s x q = ap (encoded u row) q
+
+  -- a stop does not depend on the Unicode side
+  stops-by : (u v : Side) (x : Sequence) (w : Stop) → encoded u row x ≡ stop w → encoded v row x ≡ stop w
+  stops-by u v (sequence.Scalar c n) w e = absurd (let z : _≡_ {A = ℕ} 0 1 = cc in omega arith)
+  stops-by u v (sequence.Stopped y) w e = e
+
+  pub to-stops : (u v : Side) (s : List ℕ) (w : Stop) → toStep u t substitute row s ≡ stop w → toStep v t substitute row s ≡ stop w
+  unfolding toStep
+  to-stops u v s w e = stops-by u v (toSequence t substitute row s) w e
+
+pub to-sound : (u : Side) (t : Table) (substitute : Bool) → Sound (toStep u t substitute)
+to-sound u t substitute = record {
+  some = λ row s bs n next e. let k = is-encoded t substitute row u s bs n next e in read-from t substitute row s (k .point) n (k .reads) .some;
+  within = λ row s bs n next e. let k = is-encoded t substitute row u s bs n next e in read-from t substitute row s (k .point) n (k .reads) .inside;
+  grows = λ row s rest bs n next e.
+      let k = is-encoded t substitute row u s bs n next e in
+      let c = k .point in
+      to-gives t substitute row u (s ++ rest) (sequence.Scalar c n) (to-more t substitute row s rest c n (k .reads))
+      ∙ sym (to-gives t substitute row u s (sequence.Scalar c n) (k .reads))
+      ∙ e;
+}
+
+-- T6: a line's code point is a scalar value
+t6-scalar : (l : Line) → t6 l ≡ true → Scalar (l .point)
+t6-scalar l =
+    pick-case (λ (b : Bool). b ≡ true → Scalar (l .point)) (ltb (l .point) 0xd800) _ _
+    (λ p e. let a = ltb-true (l .point) 0xd800 p in record { below = omega arith; plain = λ w. omega (arith, w .0) })
+    (λ p. pick-case (λ (b : Bool). b ≡ true → Scalar (l .point)) (ltb (l .point) 0xe000) _ _
+    (λ q e. absurd (clash e refl))
+    (λ q e.
+    let a = ltb-false (l .point) 0xe000 q in
+    let b = leb-true (l .point) 0x10ffff e in
+    record { below = omega arith; plain = λ w. omega (arith, w .1) }))
+
+pub reader-scalar : (t : Table) (c : List ℕ) (l : Line) → allOf t6 (t .lines) ≡ true → reader c (t .lines) ≡ some l → Scalar (l .point)
+reader-scalar t c l ok e = t6-scalar l (reader-keeps t6 c (t .lines) l ok e)
+
+substitute-scalar : (sub1 : Option ℕ) (n : ℕ) → Scalar (substitutePoint sub1 n)
+substitute-scalar none n = record { below = omega arith; plain = λ w. omega (arith, w .1) }
+substitute-scalar (some b) n =
+    pick-case Scalar (eqb n 1) _ _
+    (λ q. record { below = omega arith; plain = λ w. omega (arith, w .0) })
+    (λ q. record { below = omega arith; plain = λ w. omega (arith, w .1) })
+
+point-scalar : (sub1 : Option ℕ) (substitute : Bool) (m : ℕ) (o : Option Line) (c n : ℕ) → ((l : Line) → o ≡ some l → Scalar (l .point)) → pointFor sub1 substitute m o ≡ sequence.Scalar c n → Scalar c
+point-scalar sub1 substitute m (some l) c n h e = let q : l .point ≡ c = cc in subst Scalar q (h l refl)
+point-scalar sub1 true m none c n h e = let q : substitutePoint sub1 m ≡ c = cc in subst Scalar q (substitute-scalar sub1 m)
+point-scalar sub1 false m none c n h e = absurd (let z : _≡_ {A = ℕ} 0 1 = cc in omega arith)
+
+-- what is read is a scalar value, substitutes too
+pub to-scalar : (t : Table) (substitute : Bool) (row : ℕ) (s : List ℕ) (c n : ℕ) → allOf t6 (t .lines) ≡ true → toSequence t substitute row s ≡ sequence.Scalar c n → Scalar c
+to-scalar t substitute row s c n ok e =
+    let r = read-from t substitute row s c n e in
+    point-scalar (t .subchar1) substitute n (reader (take n s) (t .lines)) c n
+    (λ l q. reader-scalar t (take n s) l ok q)
+    (sym (to-complete t substitute row s n (r .kind) (r .whole)) ∙ e)
+
+-- FROM UNICODE
+sent-count : (t : Table) (substitute : Bool) (row m : ℕ) (w : Written) (bs : List ℕ) (n next : ℕ) → sentFor t substitute row m w ≡ give bs n next → m ≡ n
+sent-count t substitute row m (code c) bs n next e = cc
+sent-count t true row m subchar1 bs n next e = cc
+sent-count t false row m subchar1 bs n next e = absurd (let z : _≡_ {A = ℕ} 0 1 = cc in omega arith)
+sent-count t true row m nothing bs n next e = cc
+sent-count t false row m nothing bs n next e = absurd (let z : _≡_ {A = ℕ} 0 1 = cc in omega arith)
+
+module _ (u : Side) (t : Table) (fallback substitute : Bool) (row : ℕ) where
+  from-by : (s bs : List ℕ) (n next : ℕ) (x : Sequence) → u .decode s ≡ x → onSequence t fallback substitute row x ≡ give bs n next → (c : ℕ) × (u .decode s ≡ sequence.Scalar c n)
+  from-by s bs n next (sequence.Stopped w) q e = absurd (let z : _≡_ {A = ℕ} 0 1 = cc in omega arith)
+  from-by s bs n next (sequence.Scalar c m) q e = (c, q ∙ ap (sequence.Scalar c) (sent-count t substitute row m (writes t fallback c) bs n next e))
+
+  -- what is written was read as a code point
+  from-point : (s bs : List ℕ) (n next : ℕ) → fromStep u t fallback substitute row s ≡ give bs n next → (c : ℕ) × (u .decode s ≡ sequence.Scalar c n)
+  unfolding fromStep
+  from-point s bs n next e = from-by s bs n next (u .decode s) refl e
+
+  pub from-gives : (s : List ℕ) (x : Sequence) → u .decode s ≡ x → fromStep u t fallback substitute row s ≡ onSequence t fallback substitute row x
+  unfolding fromStep
+  from-gives s x q = ap (onSequence t fallback substitute row) q
+
+pub from-sound : (u : Side) → Lawful u → (t : Table) (fallback substitute : Bool) → Sound (fromStep u t fallback substitute)
+from-sound u law t fallback substitute = record {
+  some = λ row s bs n next e. let k = from-point u t fallback substitute row s bs n next e in law .positive s (k .0) n (k .1);
+  within = λ row s bs n next e. let k = from-point u t fallback substitute row s bs n next e in law .within s (k .0) n (k .1);
+  grows = λ row s rest bs n next e.
+      let k = from-point u t fallback substitute row s bs n next e in
+      from-gives u t fallback substitute row (s ++ rest) (sequence.Scalar (k .0) n) (law .grows s rest (k .0) n (k .1))
+      ∙ sym (from-gives u t fallback substitute row s (sequence.Scalar (k .0) n) (k .1))
+      ∙ e;
+}

@@ -1,0 +1,145 @@
+-- What is written towards Unicode is text: code points of the input, spelt out, which read back as themselves.
+use mathlib.Core.Path.{_≡_, refl, sym, ap, subst, _∙_}
+use Prim.Native.Nat.{ℕ, _+_, _-_, _≤_, _<_}
+use mathlib.Core.List.{List, [], _∷_, _++_, append-nil, map, flatten}
+use mathlib.Core.Bool.{Bool, true}
+use native.Mathlib.Omega.{arith}
+use lib.ListN.{length, drop, length-drop}
+use lib.Seq.{take-append-seam}
+use Rattle.lists.specs.Order.{All as Every}
+use Rattle.lists.proofs.Order.{map-all, all-map}
+use Rattle.unicode.specs.Utf8.{Scalar, encodeOf}
+use Rattle.unicode.specs.WellFormed.{wellFormed}
+use Rattle.unicode.specs.declared.utf8.Stop.{Stop}
+use Rattle.unicode.specs.declared.utf8.Sequence.the-variants as sequence
+use Rattle.unicode.proofs.RoundTrip.{utf8-encode-decode}
+use Rattle.unicode.proofs.WellFormed.{decodes-well-formed}
+use Rattle.table.specs.Meaning.{Table}
+use Rattle.table.specs.Rules.{allOf, t6}
+use Rattle.convert.specs.Run.{give, stop, Run, runOf, after, halted}
+use Rattle.convert.specs.Step.{Side, utf8, toStep}
+use Rattle.convert.specs.Convert.{toRun}
+use Rattle.convert.specs.Claims.{Lawful, NotFull, codePoints, pointsIn, spell, onText, textStep, ReadsAs, ReadsAsFirst, WellFormedText}
+use Rattle.convert.specs.declared.Halt.the-variants.{Full, Stopped}
+use Rattle.convert.proofs.Runs.{run-stop, run-more, every-run}
+use Rattle.convert.proofs.Steps.{is-encoded, to-gives, to-stops, to-scalar, to-sound}
+use Rattle.convert.proofs.Whole.{Given, inputs, outputs, GivesAll, made-of}
+
+-- what a run has written, beside all code points of its input
+record Spelt (u : Side) (r : Run) (all : List ℕ) : Type 0 where
+  points : List ℕ
+  rest : List ℕ
+  first : all ≡ points ++ rest
+  bytes : r .bytes ≡ spell u points
+  scalar : Every Scalar points
+  whole : NotFull r → rest ≡ []
+
+spelt-on : (u : Side) (c n : ℕ) (bs : List ℕ) (r : Run) (all : List ℕ) → Scalar c → u .encode c ≡ bs → Spelt u r all → Spelt u (after n bs r) (c ∷ all)
+unfolding spell
+spelt-on u c n bs r all k e i =
+    record {
+      points = c ∷ i .points;
+      rest = i .rest;
+      first = ap (λ (x : List ℕ). c ∷ x) (i .first);
+      bytes = ap (λ (x : List ℕ). x ++ r .bytes) (sym e) ∙ ap (λ (x : List ℕ). u .encode c ++ x) (i .bytes);
+      scalar = (k, i .scalar);
+      whole = λ f. i .whole f;
+    }
+
+module _ (u : Side) (t : Table) (substitute : Bool) (ok : allOf t6 (t .lines) ≡ true) where
+  -- as many places as bytes are enough for the code points
+  abbrev Spells : ℕ → List ℕ → ℕ → Run → Type 0
+  Spells row s room r = (places : ℕ) → length s ≤ places → Spelt u r (runOf (toStep codePoints t substitute) row 0 s places .bytes)
+
+  spelt-stop : (row : ℕ) (s : List ℕ) (room : ℕ) → 0 < length s → (w : Stop) → toStep u t substitute row s ≡ stop w → Spells row s room (halted (Stopped w) row)
+  unfolding spell
+  spelt-stop row s room h w e places l =
+      let p = run-stop (toStep codePoints t substitute) row s places h w (to-stops t substitute row u codePoints s w e) in
+      record { points = []; rest = []; first = ap (λ (r : Run). r .bytes) p; bytes = refl; scalar = tt; whole = λ f. refl }
+
+  spelt-full : (row : ℕ) (s : List ℕ) (room : ℕ) → Spells row s room (halted Full row)
+  unfolding spell
+  spelt-full row s room places l = record { points = []; rest = _; first = refl; bytes = refl; scalar = tt; whole = λ f. absurd (f refl) }
+
+  spelt-more : (row : ℕ) (s : List ℕ) (room : ℕ) → 0 < length s → (bs : List ℕ) (n next : ℕ) → toStep u t substitute row s ≡ give bs n next → length bs ≤ room
+      → (r : Run) → Spells next (drop n s) (room - length bs) r → Spells row s room (after n bs r)
+  spelt-more row s room h bs n next e l r ih places k =
+      let c = is-encoded t substitute row u s bs n next e in
+      let f = to-sound u t substitute .some row s bs n next e in
+      let w = to-sound u t substitute .within row s bs n next e in
+      let g = to-gives t substitute row codePoints s (sequence.Scalar (c .point) n) (c .reads) ∙ ap (give (c .point ∷ []) n) (c .stays) in
+      let p = run-more (toStep codePoints t substitute) row s places h (c .point ∷ []) n next g f (omega arith) in
+      subst (λ (x : Run). Spelt u (after n bs r) (x .bytes)) (sym p)
+      (spelt-on u (c .point) n bs r _ (to-scalar t substitute row s (c .point) n ok (c .reads)) (c .spelt) (ih (places - 1) (omega (arith, length-drop n s))))
+
+  spelt : (s : List ℕ) (row room : ℕ) → Spells row s room (runOf (toStep u t substitute) row 0 s room)
+  unfolding spell
+  spelt =
+      every-run (toStep u t substitute) (to-sound u t substitute) Spells
+      (λ row room places l. record { points = []; rest = []; first = refl; bytes = refl; scalar = tt; whole = λ f. refl })
+      spelt-stop
+      (λ row s room h bs n next e l. spelt-full row s room)
+      spelt-more
+
+-- spelt code points read back as themselves
+spellings : Side → List ℕ → List Given
+spellings u [] = []
+spellings u (c ∷ cs) = record { input = u .encode c; output = c ∷ [] } ∷ spellings u cs
+
+spell-in : (u : Side) (cs : List ℕ) → inputs (spellings u cs) ≡ spell u cs
+unfolding spell spellings
+spell-in u [] = refl
+spell-in u (c ∷ cs) = ap (λ (l : List ℕ). u .encode c ++ l) (spell-in u cs)
+
+spell-out : (u : Side) (cs : List ℕ) → outputs (spellings u cs) ≡ cs
+unfolding spellings
+spell-out u [] = refl
+spell-out u (c ∷ cs) = ap (λ (l : List ℕ). c ∷ l) (spell-out u cs)
+
+module _ (u : Side) (law : Lawful u) where
+  spell-gives : (cs : List ℕ) → Every Scalar cs → GivesAll (textStep u) (spellings u cs)
+  unfolding spellings
+  spell-gives [] s = tt
+  spell-gives (c ∷ cs) s = (law .some c, (λ rest. ap onText (law .put-reads c rest (s .0))), spell-gives cs (s .1))
+
+  pub reads-back : (cs : List ℕ) → Every Scalar cs → ReadsAs u (spell u cs) cs
+  reads-back cs s =
+      let b = spell-out u cs in
+      let l : length (outputs (spellings u cs)) ≤ length cs = rw b (omega arith) in
+      rw (spell-in u cs) at (rw b at (made-of (textStep u) (spellings u cs) (length cs) (spell-gives cs s) l))
+
+  module _ (t : Table) (substitute : Bool) (s : List ℕ) (room : ℕ) (ok : allOf t6 (t .lines) ≡ true) where
+    -- whatever the answer, what is written reads as the first of the input's code points
+    pub text-so-far : ReadsAsFirst u (toRun u t substitute s room .bytes) (pointsIn t substitute s)
+    text-so-far =
+        let w = spelt u t substitute ok s 0 room (length s) (omega arith) in
+        record { points = w .points; rest = w .rest; first = w .first; reads = rw (w .bytes) (reads-back (w .points) (w .scalar)) }
+
+    -- and unless the answer is 50, as all of them
+    pub well-formed : NotFull (toRun u t substitute s room) → ReadsAs u (toRun u t substitute s room .bytes) (pointsIn t substitute s)
+    well-formed f =
+        let w = spelt u t substitute ok s 0 room (length s) (omega arith) in
+        let e : w .points ≡ pointsIn t substitute s = sym (w .first ∙ ap (λ (l : List ℕ). w .points ++ l) (w .whole f) ∙ append-nil (w .points)) in
+        rw (w .bytes) (subst (ReadsAs u (spell u (w .points))) e (reads-back (w .points) (w .scalar)))
+
+-- a scalar value is encoded as one whole well-formed sequence
+encodes-formed : (c : ℕ) → Scalar c → wellFormed (encodeOf c) ≡ true
+encodes-formed c s =
+    let e = encodeOf c in
+    let r = decodes-well-formed (e ++ []) c (length e) .0 (utf8-encode-decode c [] s) in
+    ap wellFormed (sym (take-append-seam e [])) ∙ r .formed
+
+spell-flat : (u : Side) (cs : List ℕ) → spell u cs ≡ flatten (map (u .encode) cs)
+unfolding spell flatten
+spell-flat u [] = refl
+spell-flat u (c ∷ cs) = ap (λ (l : List ℕ). u .encode c ++ l) (spell-flat u cs)
+
+-- what is written towards UTF-8 is well-formed UTF-8, whatever the answer
+pub utf8-well-formed : (t : Table) (substitute : Bool) (s : List ℕ) (room : ℕ) → allOf t6 (t .lines) ≡ true → WellFormedText (toRun utf8 t substitute s room .bytes)
+utf8-well-formed t substitute s room ok =
+    let w = spelt utf8 t substitute ok s 0 room (length s) (omega arith) in
+    record {
+      sequences = map encodeOf (w .points);
+      joined = w .bytes ∙ spell-flat utf8 (w .points);
+      formed = map-all encodeOf (λ q. wellFormed q ≡ true) (w .points) (all-map encodes-formed (w .points) (w .scalar));
+    }

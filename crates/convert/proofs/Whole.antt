@@ -1,0 +1,116 @@
+-- Laws of any run whose step is sound: more space, more input, joined inputs, pieces, and an input made of sequences.
+use mathlib.Core.Path.{_≡_, refl, sym, ap, _∙_}
+use Prim.Native.Nat.{ℕ, _+_, _-_, _≤_, _<_}
+use mathlib.Core.List.{List, [], _∷_, _++_, append-nil, append-assoc, flatten}
+use native.Mathlib.Omega.{arith}
+use lib.ListN.{length, drop, length-append, length-drop}
+use lib.Seq.{drop-append-le, drop-append-seam, drop-drop, drop-length}
+use Rattle.convert.specs.Run.{give, Step, Run, runOf, after, halted, Sound}
+use Rattle.convert.specs.Claims.{NotFull, allRead, fed}
+use Rattle.convert.specs.declared.Halt.{Halt}
+use Rattle.convert.specs.declared.Halt.the-variants.{All, Full, Stopped}
+use Rattle.convert.proofs.Runs.{run-stop, run-more, every-run, after-after, after-none}
+
+-- after a run on s: the run on what it left of s, with t behind that
+abbrev pub resumed : Step → List ℕ → List ℕ → ℕ → Run → Run
+resumed step s t room r = after (r .read) (r .bytes) (runOf step (r .state) 0 (drop (r .read) s ++ t) (room - length (r .bytes)))
+
+module _ (step : Step) (so : Sound step) where
+  -- more space gives the same, unless the answer was 50
+  pub more-room : (s : List ℕ) (st room m : ℕ) → NotFull (runOf step st 0 s room) → runOf step st 0 s (room + m) ≡ runOf step st 0 s room
+  more-room s st room m =
+      every-run step so (λ st s room r. NotFull r → runOf step st 0 s (room + m) ≡ r)
+      (λ st room f. refl)
+      (λ st s room h w e f. run-stop step st s (room + m) h w e)
+      (λ st s room h bs n next e l f. absurd (f refl))
+      (λ st s room h bs n next e l r ih f.
+      let d : room + m - length bs ≡ room - length bs + m = omega arith in
+      run-more step st s (room + m) h bs n next e (so .some st s bs n next e) (omega arith) ∙ rw d (ap (after n bs) (ih f)))
+      s st room
+
+  -- what is written fits
+  pub fits : (s : List ℕ) (st room : ℕ) → length (runOf step st 0 s room .bytes) ≤ room
+  fits =
+      every-run step so (λ st s room r. length (r .bytes) ≤ room)
+      (λ st room. omega arith)
+      (λ st s room h w e. omega arith)
+      (λ st s room h bs n next e l. omega arith)
+      (λ st s room h bs n next e l r ih. omega (arith, length-append bs (r .bytes)))
+
+  -- an answer of 0 has read all
+  pub all-read : (s : List ℕ) (st room : ℕ) → runOf step st 0 s room .halt ≡ All → runOf step st 0 s room .read ≡ length s
+  all-read =
+      every-run step so (λ st s room r. r .halt ≡ All → r .read ≡ length s)
+      (λ st room f. refl)
+      (λ st s room h w e f. absurd (let z : _≡_ {A = ℕ} 0 1 = cc in omega arith))
+      (λ st s room h bs n next e l f. absurd (let z : _≡_ {A = ℕ} 0 1 = cc in omega arith))
+      (λ st s room h bs n next e l r ih f.
+      let w = so .within st s bs n next e in
+      let i = ih f in
+      omega (arith, length-drop n s))
+
+  resumed-none : (h : Halt) (s t : List ℕ) (st room : ℕ) → runOf step st 0 (s ++ t) room ≡ resumed step s t room (halted h st)
+  resumed-none h s t st room =
+      let e : room - 0 ≡ room = omega arith in
+      sym (after-none (runOf step st 0 (s ++ t) (room - 0)) ∙ ap (runOf step st 0 (s ++ t)) e)
+
+  -- more input: the run on s ++ t is the run on s, however it ended, resumed with t
+  pub resume : (s t : List ℕ) (st room : ℕ) → runOf step st 0 (s ++ t) room ≡ resumed step s t room (runOf step st 0 s room)
+  resume s t st room =
+      every-run step so (λ st s room r. runOf step st 0 (s ++ t) room ≡ resumed step s t room r)
+      (λ st room. resumed-none All [] t st room)
+      (λ st s room h w e. resumed-none (Stopped w) s t st room)
+      (λ st s room h bs n next e l. resumed-none Full s t st room)
+      (λ st s room h bs n next e l r ih.
+      let p = so .some st s bs n next e in
+      let m : room - length (bs ++ r .bytes) ≡ room - length bs - length (r .bytes) = rw (length-append bs (r .bytes)) (omega arith) in
+      run-more step st (s ++ t) room (omega (arith, length-append s t)) bs n next (so .grows st s t bs n next e) p l
+      ∙ rw (drop-append-le n s t (so .within st s bs n next e)) (ap (after n bs) ih ∙ after-after n (r .read) bs (r .bytes) _ ∙ rw (drop-drop (r .read) n s, m)))
+      s st room
+
+  -- an input that splits at a sequence boundary: the run on s answers 0, and that on s ++ t is it and then the run on t
+  pub join : (s t : List ℕ) (st room : ℕ) → runOf step st 0 s room .halt ≡ All
+      → let r = runOf step st 0 s room in
+      runOf step st 0 (s ++ t) room ≡ after (length s) (r .bytes) (runOf step (r .state) 0 t (room - length (r .bytes)))
+  join s t st room f =
+      let r = runOf step st 0 s room in
+      resume s t st room
+      ∙ ap (λ (n : ℕ). after n (r .bytes) (runOf step (r .state) 0 (drop n s ++ t) (room - length (r .bytes)))) (all-read s st room f)
+      ∙ rw (drop-length s)
+
+  -- an input fed in pieces is converted as in one
+  pub pieces : (ps : List (List ℕ)) (st room : ℕ) (left : List ℕ) → fed step st room left ps ≡ runOf step st 0 (left ++ flatten ps) room
+  unfolding fed flatten
+  pieces [] st room left = ap (λ (s : List ℕ). runOf step st 0 s room) (sym (append-nil left))
+  pieces (p ∷ ps) st room left =
+      let r = runOf step st 0 (left ++ p) room in
+      ap (after (r .read) (r .bytes)) (pieces ps (r .state) (room - length (r .bytes)) (drop (r .read) (left ++ p)))
+      ∙ sym (resume (left ++ p) (flatten ps) st room)
+      ∙ ap (λ (s : List ℕ). runOf step st 0 s room) (append-assoc left p (flatten ps))
+
+-- a sequence, and what it gives
+pub record Given : Type 0 where
+  pub input : List ℕ
+  pub output : List ℕ
+
+abbrev pub inputs : List Given → List ℕ
+inputs [] = []
+inputs (p ∷ l) = p .input ++ inputs l
+
+abbrev pub outputs : List Given → List ℕ
+outputs [] = []
+outputs (p ∷ l) = p .output ++ outputs l
+
+-- each gives its output whatever follows
+abbrev pub GivesAll : Step → List Given → Type 0
+GivesAll step [] = Unit {0}
+GivesAll step (p ∷ l) = (0 < length (p .input)) × ((rest : List ℕ) → step 0 (p .input ++ rest) ≡ give (p .output) (length (p .input)) 0) × GivesAll step l
+
+-- an input made of sequences that give is read whole, and gives what they give
+pub made-of : (step : Step) (l : List Given) (room : ℕ) → GivesAll step l → length (outputs l) ≤ room → runOf step 0 0 (inputs l) room ≡ allRead (inputs l) (outputs l)
+made-of step [] room g h = refl
+made-of step (p ∷ l) room g h =
+    let a = length-append (p .output) (outputs l) in
+    let b = length-append (p .input) (inputs l) in
+    run-more step 0 (p .input ++ inputs l) room (omega (arith, g .0)) (p .output) (length (p .input)) 0 (g .1 (inputs l)) (g .0) (omega arith)
+    ∙ rw (drop-append-seam (p .input) (inputs l)) (ap (after (length (p .input)) (p .output)) (made-of step l (room - length (p .output)) (g .2) (omega arith)) ∙ rw b)

@@ -1,0 +1,190 @@
+use mathlib.Core.Path.{_≡_, sym, ap, _∙_}
+use Prim.Native.Nat.{ℕ, _+_, _-_, _<_}
+use mathlib.Core.List.{List}
+use native.Mathlib.Omega.{arith}
+use lib.ListN.{length, drop}
+use Rattle.lists.specs.Order.{All}
+use Rattle.lists.proofs.AllPlaces.{all-places}
+use Rattle.unicode.specs.Utf8.{Scalar, encodeOf}
+use Rattle.unicode.specs.declared.utf8.Sequence.{Sequence}
+use Rattle.unicode.specs.declared.utf8.Sequence.the-variants as sequence
+use Rattle.unicode.proofs.Puts.{put-done, put-full, put-refused}
+use Rattle.table.specs.Meaning.{Table}
+use Rattle.table.specs.Memory.{tableIn}
+use Rattle.convert.specs.Run.{Step}
+use Rattle.convert.specs.Step.{utf8, toSequence, encoded, toStep}
+use Rattle.convert.proofs.Runs.{Going, begin, turn, ends-all, ends-stop, ends-full, rest-is}
+use Rattle.convert.proofs.Steps.{to-sound, to-scalar, to-gives}
+use Rattle.convert.proofs.LookUps.{held}
+use borrow.Author.Needs.{needs}
+use Rattle.convert.proofs.to_run.Statement.{statement}
+use Rattle.convert.proofs.to_run.Tie as tie
+
+abbrev Inv-loop : tie.InvT-loop
+Inv-loop rec states codes infos order input out₀ substitute at₀ w₀ out at w = Going (toStep utf8 (tableIn rec states codes infos) substitute) 0 input out₀ out 0 at w
+
+abbrev μ-loop : tie.MeasureT-loop
+μ-loop rec states codes infos order input out₀ substitute at₀ w₀ out at w = length input - at
+
+-- the table, the step and the rest of the input at a turn
+abbrev tableAt : tie.After-to-step Inv-loop μ-loop → Table
+tableAt d = let a = d .before .before .before .before .before .before .before .before .before .before .args in tableIn (a .rec) (a .states .now) (a .codes .now) (a .infos .now)
+
+abbrev stepAt : tie.After-to-step Inv-loop μ-loop → Step
+stepAt d = toStep utf8 (tableAt d) (d .before .before .before .before .before .before .before .before .before .before .args .substitute)
+
+abbrev restAt : tie.After-to-step Inv-loop μ-loop → List ℕ
+restAt d = drop (d .before .before .before .loop .at) (d .before .before .before .before .before .before .before .before .before .before .args .input .now)
+
+-- what the rest begins with, and gives
+sequenceAt : (d : tie.After-to-step Inv-loop μ-loop) → d .to-step .result ≡ toSequence (tableAt d) (d .before .before .before .before .before .before .before .before .before .before .args .substitute) 0 (restAt d)
+sequenceAt d =
+    let a = d .before .before .before .before .before .before .before .before .before .before .args in
+    d .to-step .ensures (a .order .now) (d .before .before .before .before .before .before .before .before .before .before .pre)
+    ∙ ap (toSequence (tableAt d) (a .substitute) 0) (rest-is (a .input .now) (d .before .before .before .loop .at))
+
+gaveAt : (d : tie.After-to-step Inv-loop μ-loop) (x : Sequence) → d .to-step .result ≡ x → stepAt d 0 (restAt d) ≡ encoded utf8 0 x
+gaveAt d x e = to-gives (tableAt d) (d .before .before .before .before .before .before .before .before .before .before .args .substitute) 0 utf8 (restAt d) x (sym (sequenceAt d) ∙ e)
+
+-- T6: a scalar value
+scalarAt : (d : tie.After-to-step Inv-loop μ-loop) (x n : ℕ) → d .to-step .result ≡ sequence.Scalar x n → Scalar x
+scalarAt d x n e =
+    let a = d .before .before .before .before .before .before .before .before .before .before .args in
+    let small : All (λ y. y < 4294967296) (a .codes .now) = all-places (λ y. y < 4294967296) (a .codes .now) 0 (λ i. d .before .before .before .before .before .before .before .before .shared-slice-known2 .given i .fits) in
+    let k = held (a .rec) (a .states .now) (a .codes .now) (a .infos .now) (a .order .now) (d .before .before .before .before .before .before .before .before .before .before .pre) small (omega (arith, d .before .before .before .before .before .before .before .before .before .before .good .0)) in
+    to-scalar (tableAt d) (a .substitute) 0 (restAt d) x n (k .1 .rule6) (sym (sequenceAt d) ∙ e)
+
+-- the turn is over
+nextAt : (c : tie.After-known-told3 Inv-loop μ-loop) → let d = c .before .before .before .before .before .before .before .before .before .before in
+    Going (stepAt d) 0 (d .before .before .before .before .before .before .before .before .before .before .args .input .now) (d .before .before .before .before .before .before .before .before .before .before .args .out .now) (c .before .before .before .before .before .encode .last .1 .0) 0 (d .before .before .before .loop .at + c .before .before .before .before .before .before .before .before .sequence2 .given .0 .1 .0) (d .before .before .before .loop .w + c .before .put .given .0 .0)
+nextAt c =
+    let d = c .before .before .before .before .before .before .before .before .before .before in
+    let q = d .before .before .before .loop in
+    let k = c .before .before .before .before .before .before .before .before .sequence2 .given in
+    let x = c .before .before .before .before .before .encode in
+    let p = put-done (k .0 .0) (q .out) (q .w) (c .before .put .given .0 .0) (sym (c .before .put .given .1) ∙ x .ensures .0) in
+    turn (q .inv) (d .before .before .loop-test .taken) (encodeOf (k .0 .0)) (k .0 .1 .0) 0 (gaveAt d (sequence.Scalar (k .0 .0) (k .0 .1 .0)) (k .1))
+    (to-sound utf8 (tableAt d) (d .before .before .before .before .before .before .before .before .before .before .args .substitute)) (c .before .put .given .0 .0) (x .last .1 .0) (p .count) (p .within) (x .ensures .1 ∙ p .bytes)
+
+loop-holds : tie.Need-loop-holds Inv-loop μ-loop
+loop-holds c =
+    let a = c .before .before .before .before .before .before .args in
+    begin (toStep utf8 (tableIn (a .rec) (a .states .now) (a .codes .now) (a .infos .now)) (a .substitute)) 0 (a .input .now) (a .out .now)
+
+sub-to-step : tie.Need-sub-to-step Inv-loop μ-loop
+sub-to-step c = omega arith
+
+part-to-step-start : tie.Need-part-to-step-start Inv-loop μ-loop
+part-to-step-start c = omega arith
+
+part-to-step-end : tie.Need-part-to-step-end Inv-loop μ-loop
+part-to-step-end c = omega arith
+
+to-step-requires : tie.Need-to-step-requires Inv-loop μ-loop
+to-step-requires c κs = search needs
+
+enum-known-sequence : tie.Need-enum-known-sequence Inv-loop μ-loop
+enum-known-sequence c = search needs
+
+same-length : tie.Need-same-length Inv-loop μ-loop
+same-length c = search needs
+
+returns : tie.Need-returns Inv-loop μ-loop
+returns c =
+    let d = c .before .before .before in
+    ends-stop (d .before .before .before .loop .inv) (d .before .before .loop-test .taken) (c .before .sequence .given .0 .0) (gaveAt d (sequence.Stopped (c .before .sequence .given .0 .0)) (c .before .sequence .given .1))
+
+enum-known-sequence-2 : tie.Need-enum-known-sequence-2 Inv-loop μ-loop
+enum-known-sequence-2 c = search needs
+
+encode-requires : tie.Need-encode-requires Inv-loop μ-loop
+encode-requires c κs = search needs
+
+enum-known-put : tie.Need-enum-known-put Inv-loop μ-loop
+enum-known-put c = search needs
+
+add-at : tie.Need-add-at Inv-loop μ-loop
+add-at c =
+    let g = nextAt c in
+    omega (arith, c .before .before .before .before .before .before .before .before .before .before .before .before .before .before .before .before .before .before .before .before .good .1 .1 .1 .1 .1 .0 .0)
+
+add-w : tie.Need-add-w Inv-loop μ-loop
+add-w c =
+    let g = nextAt c in
+    omega (arith, c .before .before .before .before .before .before .before .before .before .before .before .before .before .before .before .before .before .before .before .before .good .1 .1 .1 .1 .1 .1 .0 .0)
+
+loop-less : tie.Need-loop-less Inv-loop μ-loop
+loop-less c =
+    let d = c .before .before .before .before .before .before .before .before .before .before in
+    let k = c .before .before .before .before .before .before .before .before .sequence2 .given in
+    let g = nextAt c in
+    let p = to-sound utf8 (tableAt d) (c .before .before .before .before .before .before .before .before .before .before .before .before .before .before .before .before .before .before .before .before .args .substitute) .some 0 (restAt d) (encodeOf (k .0 .0)) (k .0 .1 .0) 0 (gaveAt d (sequence.Scalar (k .0 .0) (k .0 .1 .0)) (k .1)) in
+    omega arith
+
+loop-again : tie.Need-loop-again Inv-loop μ-loop
+loop-again c = nextAt c
+
+enum-told : tie.Need-enum-told Inv-loop μ-loop
+enum-told c = search needs
+
+same-length-2 : tie.Need-same-length-2 Inv-loop μ-loop
+same-length-2 c = search needs
+
+returns-2 : tie.Need-returns-2 Inv-loop μ-loop
+returns-2 c =
+    let d = c .before .before .before .before .before .before .before .before .before in
+    let q = d .before .before .before .loop in
+    let k = c .before .before .before .before .before .before .before .sequence2 .given in
+    let x = c .before .before .before .before .encode in
+    let f = put-full (k .0 .0) (q .out) (q .w) (sym (c .enum-told .given .1) ∙ x .ensures .0) in
+    let r = ends-full (q .inv) (d .before .before .loop-test .taken) (encodeOf (k .0 .0)) (k .0 .1 .0) 0 (gaveAt d (sequence.Scalar (k .0 .0) (k .0 .1 .0)) (k .1)) (f .beyond) in
+    (r .0, x .ensures .1 ∙ f .kept ∙ r .1)
+
+enum-told-2 : tie.Need-enum-told-2 Inv-loop μ-loop
+enum-told-2 c = search needs
+
+same-length-3 : tie.Need-same-length-3 Inv-loop μ-loop
+same-length-3 c = search needs
+
+returns-3 : tie.Need-returns-3 Inv-loop μ-loop
+returns-3 c =
+    let d = c .before .before .before .before .before .before .before .before .before in
+    let q = d .before .before .before .loop in
+    let k = c .before .before .before .before .before .before .before .sequence2 .given in
+    absurd (put-refused (k .0 .0) (q .out) (q .w) (sym (c .enum-told2 .given .1) ∙ c .before .before .before .before .encode .ensures .0) .other (scalarAt d (k .0 .0) (k .0 .1 .0) (k .1)))
+
+same-length-4 : tie.Need-same-length-4 Inv-loop μ-loop
+same-length-4 c = search needs
+
+returns-4 : tie.Need-returns-4 Inv-loop μ-loop
+returns-4 c = ends-all (c .before .loop .inv) (c .loop-test .left)
+
+pub to-run-spec : {M : Type 1} → statement M
+to-run-spec =
+    tie.close
+    (tie.spec
+    Inv-loop
+    μ-loop
+    loop-holds
+    sub-to-step
+    part-to-step-start
+    part-to-step-end
+    to-step-requires
+    enum-known-sequence
+    same-length
+    returns
+    enum-known-sequence-2
+    encode-requires
+    enum-known-put
+    add-at
+    add-w
+    loop-less
+    loop-again
+    enum-told
+    same-length-2
+    returns-2
+    enum-told-2
+    same-length-3
+    returns-3
+    same-length-4
+    returns-4)

@@ -1,0 +1,104 @@
+use mathlib.Core.Path.{sym, ap, _∙_}
+use Prim.Native.Nat.{_<_}
+use native.Mathlib.Omega.{arith}
+use Rattle.lists.specs.Order.{All}
+use Rattle.lists.proofs.AllPlaces.{all-places}
+use Rattle.table.specs.declared.states.Cut.the-variants as cut
+use Rattle.table.specs.declared.states.Halt.the-variants as halt
+use Rattle.convert.proofs.LookUps.{cut-within, to-cut, to-hit, to-nothing}
+use borrow.Author.Needs.{needs}
+use Rattle.convert.proofs.to_step.Statement.{statement}
+use Rattle.convert.proofs.to_step.Tie as tie
+
+-- the codes are numbers of 32 bits, the input is bytes
+smallAt : (d : tie.After-cut-one) → All (λ x. x < 4294967296) (d .before .before .before .before .before .args .codes .now)
+smallAt d = all-places (λ x. x < 4294967296) (d .before .before .before .before .before .args .codes .now) 0 (λ i. d .before .before .before .shared-slice-known2 .given i .fits)
+
+subAt : (d : tie.After-cut-one) → d .before .before .before .before .before .args .rec .subchar .bits < 4294967296
+subAt d = omega (arith, d .before .before .before .before .before .good .0)
+
+bytesAt : (d : tie.After-cut-one) → All (λ b. b < 256) (d .before .before .before .before .before .args .s .now)
+bytesAt d = all-places (λ b. b < 256) (d .before .before .before .before .before .args .s .now) 0 (λ i. d .before .shared-slice-known4 .given i .fits)
+
+cut-one-requires : tie.Need-cut-one-requires
+cut-one-requires c κs = search needs
+
+enum-known-halt : tie.Need-enum-known-halt
+enum-known-halt c = search needs
+
+enum-told : tie.Need-enum-told
+enum-told c = search needs
+
+enum-known-halt-2 : tie.Need-enum-known-halt-2
+enum-known-halt-2 c = search needs
+
+enum-known-n : tie.Need-enum-known-n
+enum-known-n c = search needs
+
+pack-requires : tie.Need-pack-requires
+pack-requires c κs =
+    let a = c .before .before .before .before .before .before .before .before .args in
+    let k = c .before .n .given in
+    cut-within (a .states .now) (a .s .now) (k .0 .0) (k .0 .1 .0) (sym (c .before .before .before .cut-one .ensures) ∙ k .1) .2
+
+cast-t18 : tie.Need-cast-t18
+cast-t18 c =
+    let a = c .before .before .before .before .before .before .before .before .before .args in
+    let k = c .before .before .n .given in
+    omega (arith, cut-within (a .states .now) (a .s .now) (k .0 .0) (k .0 .1 .0) (sym (c .before .before .before .before .cut-one .ensures) ∙ k .1) .1)
+
+find-code-requires : tie.Need-find-code-requires
+find-code-requires c κs = search needs
+
+enum-known-info : tie.Need-enum-known-info
+enum-known-info c = search needs
+
+enum-told-2 : tie.Need-enum-told-2
+enum-told-2 c = search needs
+
+unassigned-requires : tie.Need-unassigned-requires
+unassigned-requires c κs = search needs
+
+returns : tie.Need-returns
+returns c =
+    let a = c .before .before .before .before .before .before .before .before .before .before .args in
+    let d = c .before .before .before .before .before in
+    λ order ok. sym (to-cut (a .rec) (a .states .now) (a .codes .now) (a .infos .now) order ok (smallAt d) (subAt d) (a .substitute) (a .s .now) (bytesAt d) (cut.Stopped halt.CutShort) (sym (d .cut-one .ensures) ∙ c .before .before .before .halt .given .1 ∙ ap cut.Stopped (c .enum-told .given .1)))
+
+returns-2 : tie.Need-returns-2
+returns-2 c =
+    let a = c .before .before .before .before .before .before .before .before .before .before .before .args in
+    let d = c .before .before .before .before .before .before in
+    λ order ok. sym (to-cut (a .rec) (a .states .now) (a .codes .now) (a .infos .now) order ok (smallAt d) (subAt d) (a .substitute) (a .s .now) (bytesAt d) (cut.Stopped (halt.Illegal (c .before .halt2 .given .0 .0))) (sym (d .cut-one .ensures) ∙ c .before .before .before .before .halt .given .1 ∙ ap cut.Stopped (c .before .halt2 .given .1)))
+
+returns-3 : tie.Need-returns-3
+returns-3 c =
+    let a = c .before .before .before .before .before .before .before .before .before .before .before .before .before .args in
+    let d = c .before .before .before .before .before .before .before .before in
+    λ order ok. sym (to-hit (a .rec) (a .states .now) (a .codes .now) (a .infos .now) order ok (smallAt d) (subAt d) (a .substitute) (a .s .now) (bytesAt d) (c .before .before .before .before .before .before .n .given .0 .0) (c .before .before .before .before .before .before .n .given .0 .1 .0) (c .before .before .before .before .pack .result) (sym (d .cut-one .ensures) ∙ c .before .before .before .before .before .before .n .given .1) (c .before .before .before .before .pack .ensures) (c .before .before .before .find-code .result) (c .before .before .before .find-code .ensures) (c .before .info .given .0 .0) (c .before .info .given .0 .1 .0) (c .before .info .given .1))
+
+returns-4 : tie.Need-returns-4
+returns-4 c =
+    let a = c .before .before .before .before .before .before .before .before .before .before .before .before .before .args in
+    let d = c .before .before .before .before .before .before .before .before in
+    λ order ok. c .unassigned .ensures ∙ sym (to-nothing (a .rec) (a .states .now) (a .codes .now) (a .infos .now) order ok (smallAt d) (subAt d) (a .substitute) (a .s .now) (bytesAt d) (c .before .before .before .before .before .before .n .given .0 .0) (c .before .before .before .before .before .before .n .given .0 .1 .0) (c .before .before .before .before .pack .result) (sym (d .cut-one .ensures) ∙ c .before .before .before .before .before .before .n .given .1) (c .before .before .before .before .pack .ensures) (c .before .before .before .find-code .result) (c .before .before .before .find-code .ensures) (c .before .enum-told2 .given .1))
+
+pub to-step-spec : {M : Type 1} → statement M
+to-step-spec =
+    tie.close
+    (tie.spec
+    cut-one-requires
+    enum-known-halt
+    enum-told
+    enum-known-halt-2
+    enum-known-n
+    pack-requires
+    cast-t18
+    find-code-requires
+    enum-known-info
+    enum-told-2
+    unassigned-requires
+    returns
+    returns-2
+    returns-3
+    returns-4)

@@ -1,0 +1,102 @@
+-- What one sequence gives, on either side, by the lines of a table. The Unicode side is a parameter.
+use Prim.Native.Nat.{ℕ, zero, suc, _+_, _-_, _*_, _<_, _≤_}
+use mathlib.Core.Path.{_≡_}
+use mathlib.Core.List.{List, [], _∷_, _++_}
+use mathlib.Core.Bool.{Bool, true, false}
+use mathlib.Core.Option.{Option, none, some}
+use lib.Dec.{leb, eqb}
+use lib.ListN.{length, take, drop}
+use Rattle.lists.specs.Pick.{pick}
+use Rattle.unicode.specs.Utf8.{decodeOne, encodeOf, Scalar}
+use Rattle.unicode.specs.declared.utf8.Sequence.{Sequence}
+use Rattle.unicode.specs.declared.utf8.Sequence.the-variants as sequence
+use Rattle.unicode.specs.declared.utf8.Stop.{Stop}
+use Rattle.unicode.specs.declared.utf8.Stop.the-variants as stopped
+use Rattle.table.specs.States.{cutOf}
+use Rattle.table.specs.Codes.{unpacked}
+use Rattle.table.specs.Meaning.{Line, Table, stepsOf, reader, writer}
+use Rattle.table.specs.declared.states.Cut.{Cut}
+use Rattle.table.specs.declared.states.Cut.the-variants as cut
+use Rattle.table.specs.declared.states.Halt.the-variants as halt
+use Rattle.convert.specs.Run.{Gives, give, stop, Step}
+use Rattle.convert.specs.declared.Sent.{Sent}
+use Rattle.convert.specs.declared.Sent.the-variants as sent
+
+-- a Unicode encoding form: one code point from the front of a list, and a code point as a list
+pub record Side : Type 0 where
+  pub decode : List ℕ → Sequence
+  pub encode : ℕ → List ℕ
+
+abbrev pub utf8 : Side
+utf8 = record { decode = decodeOne; encode = encodeOf }
+
+-- TO UNICODE. What stands for an unassigned code of n bytes: U+001A for one byte where subchar1 is given, else U+FFFD
+abbrev pub substitutePoint : Option ℕ → ℕ → ℕ
+substitutePoint none n = 0xfffd
+substitutePoint (some b) n = pick (eqb n 1) 0x1a 0xfffd
+
+-- the code point of a complete code of n bytes, by the line that reads it
+abbrev pub pointFor : Option ℕ → Bool → ℕ → Option Line → Sequence
+pointFor sub1 substitute n (some l) = sequence.Scalar (l .point) n
+pointFor sub1 substitute n none =
+    pick substitute (sequence.Scalar (substitutePoint sub1 n) n) (sequence.Stopped stopped.Unassigned)
+
+abbrev pub onCut : Table → Bool → List ℕ → Cut → Sequence
+onCut t substitute s (cut.Stopped halt.CutShort) = sequence.Stopped stopped.CutShort
+onCut t substitute s (cut.Stopped (halt.Illegal n)) = sequence.Stopped (stopped.Illegal n)
+onCut t substitute s (cut.Complete n e) = pointFor (t .subchar1) substitute n (reader (take n s) (t .lines))
+
+-- one sequence of the table's bytes, cut by the states from its initial row on
+unfoldable pub toSequence : Table → Bool → ℕ → List ℕ → Sequence
+toSequence t substitute row s = onCut t substitute s (cutOf (stepsOf t) row s)
+
+abbrev pub encoded : Side → ℕ → Sequence → Gives
+encoded u row (sequence.Scalar c n) = give (u .encode c) n row
+encoded u row (sequence.Stopped w) = stop w
+
+unfoldable pub toStep : Side → Table → Bool → Step
+toStep u t substitute row s = encoded u row (toSequence t substitute row s)
+
+-- FROM UNICODE. What a code point becomes: its code; subchar1; or nothing that the table has
+pub data Written : Type 0 where
+  code : List ℕ → Written
+  subchar1 : Written
+  nothing : Written
+
+-- `|0` always writes, `|1` only with fallback on, `|2` is substituted by subchar1
+abbrev pub writtenBy : Bool → Option Line → Written
+writtenBy fallback none = nothing
+writtenBy fallback (some l) =
+    pick (eqb (l .indicator) 0) (code (l .code))
+    (pick (eqb (l .indicator) 1) (pick fallback (code (l .code)) nothing) subchar1)
+
+-- what a code point is written as
+unfoldable pub writes : Table → Bool → ℕ → Written
+writes t fallback c = writtenBy fallback (writer c (t .lines))
+
+abbrev pub sub1Bytes : Option ℕ → List ℕ → List ℕ
+sub1Bytes none c = c
+sub1Bytes (some b) c = b ∷ []
+
+-- a code that stands for a code point of n bytes where substituting is on
+abbrev pub substituted : Bool → List ℕ → ℕ → ℕ → Gives
+substituted substitute c n row = pick substitute (give c n row) (stop stopped.Unassigned)
+
+-- the bytes for a code point read from n bytes; a `|2` line is only in tables with subchar1 (T8)
+abbrev pub sentFor : Table → Bool → ℕ → ℕ → Written → Gives
+sentFor t substitute row n (code c) = give c n row
+sentFor t substitute row n subchar1 = substituted substitute (sub1Bytes (t .subchar1) (t .subchar)) n row
+sentFor t substitute row n nothing = substituted substitute (t .subchar) n row
+
+abbrev pub onSequence : Table → Bool → Bool → ℕ → Sequence → Gives
+onSequence t fallback substitute row (sequence.Stopped w) = stop w
+onSequence t fallback substitute row (sequence.Scalar c n) = sentFor t substitute row n (writes t fallback c)
+
+-- one sequence of the Unicode side
+unfoldable pub fromStep : Side → Table → Bool → Bool → Step
+fromStep u t fallback substitute row s = onSequence t fallback substitute row (u .decode s)
+
+-- what is sent, as bytes: the code's bits hold its bytes, the first on top
+abbrev pub sentOf : Sent → Gives
+sentOf (sent.Code bits len n) = give (unpacked len bits) n 0
+sentOf (sent.Stopped w) = stop w

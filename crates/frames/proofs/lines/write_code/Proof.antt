@@ -1,0 +1,87 @@
+-- `write_code` meets its contract. The invariant: storing the digits of the bytes left gives what storing all of them gives. The measure: the bytes left.
+use mathlib.Core.Path.{_≡_, refl, sym, _∙_}
+use Prim.Native.Nat.{_+_, _*_, _^_, _<_}
+use native.Mathlib.Omega.{arith}
+use borrow.Author.Needs.{needs}
+use lib.ListN.{length}
+use lib.Seq.{sets}
+use Rattle.frames.specs.Lines.{hexBytes, codeBytes}
+use Rattle.frames.proofs.Hex.{code-stored, code-done, length-code, hex-none, hex-some, count-none, count-some}
+use Rattle.frames.proofs.lines.write_code.Statement.{statement}
+use Rattle.frames.proofs.lines.write_code.Tie as tie
+
+abbrev Inv-loop : tie.InvT-loop
+Inv-loop bits len out₀ at rest₀ left₀ p₀ out rest left p = (sets out p (hexBytes (codeBytes left rest)) ≡ sets out₀ at (hexBytes (codeBytes len bits))) × (p + 2 * left ≡ at + 2 * len) × (length out ≡ length out₀) × (rest < 2 ^ 32)
+
+abbrev μ-loop : tie.MeasureT-loop
+μ-loop bits len out₀ at rest₀ left₀ p₀ out rest left p = left
+
+slice-write-out : tie.Need-slice-write-out Inv-loop μ-loop
+slice-write-out c = omega (arith, count-none (c .before .before .args .len) (c .if1 .taken))
+
+add-result : tie.Need-add-result Inv-loop μ-loop
+add-result c = omega (arith, count-none (c .before .before .args .len) (c .if1 .taken))
+
+same-length : tie.Need-same-length Inv-loop μ-loop
+same-length c = search needs
+
+returns : tie.Need-returns Inv-loop μ-loop
+returns c =
+    let a = c .before .before .args in
+    (omega (arith, count-none (a .len) (c .if1 .taken)), rw (hex-none (codeBytes (a .len) (a .bits)) (length-code (a .len) (a .bits) ∙ c .if1 .taken)))
+
+loop-holds : tie.Need-loop-holds Inv-loop μ-loop
+loop-holds c = (refl, refl, refl, search needs)
+
+cast-write-byte : tie.Need-cast-write-byte Inv-loop μ-loop
+cast-write-byte c = search needs
+
+write-byte-requires : tie.Need-write-byte-requires Inv-loop μ-loop
+write-byte-requires c κs = omega (arith, count-some (c .before .before .before .before .before .args .len) (c .before .before .before .if1 .left))
+
+mul-rest : tie.Need-mul-rest Inv-loop μ-loop
+mul-rest c = search needs
+
+add-p : tie.Need-add-p Inv-loop μ-loop
+add-p c = omega (arith, count-some (c .before .before .before .before .before .before .before .before .args .len) (c .before .before .before .before .before .before .if1 .left))
+
+sub-left : tie.Need-sub-left Inv-loop μ-loop
+sub-left c = search needs
+
+loop-less : tie.Need-loop-less Inv-loop μ-loop
+loop-less c = search needs
+
+loop-again : tie.Need-loop-again Inv-loop μ-loop
+loop-again c =
+    let l = c .before .before .before .before .before .loop in
+    (rw (c .before .before .write-byte .ensures) (sym (code-stored (l .out) (l .p) (l .left) (l .rest) (omega arith)) ∙ l .inv .0), omega arith, c .before .before .write-byte .kept .1 .0 ∙ l .inv .2, omega arith)
+
+same-length-2 : tie.Need-same-length-2 Inv-loop μ-loop
+same-length-2 c = c .before .loop .inv .2
+
+returns-2 : tie.Need-returns-2 Inv-loop μ-loop
+returns-2 c =
+    let l = c .before .loop in
+    let a = c .before .before .before .before .args in
+    (omega (arith, count-some (a .len) (c .before .before .if1 .left)), rw (hex-some (codeBytes (a .len) (a .bits)) (λ e. c .before .before .if1 .left (sym (length-code (a .len) (a .bits)) ∙ e))) (sym (code-done (l .out) (l .p) (l .left) (l .rest) (omega arith)) ∙ l .inv .0))
+
+pub write-code-spec : {M : Type 1} → statement M
+write-code-spec =
+    tie.close
+    (tie.spec
+    Inv-loop
+    μ-loop
+    slice-write-out
+    add-result
+    same-length
+    returns
+    loop-holds
+    cast-write-byte
+    write-byte-requires
+    mul-rest
+    add-p
+    sub-left
+    loop-less
+    loop-again
+    same-length-2
+    returns-2)

@@ -1,0 +1,2 @@
+// The program's work as a library: lines in, lines out.
+pub mod lines;
