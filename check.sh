@@ -32,6 +32,9 @@ part() {
 
 part "layout of the sources" rt fmt --check
 part "proofs, must-fail edits, programs" rt ci
+part "static library" rt staticlib cabi
+part "C example" bash tests/c/run.sh
+part "tests from outside" cargo run --release --offline --quiet --manifest-path tests/Cargo.toml
 
 echo "== whole: $SECONDS s"
 echo "$passed passed, $failed failed"

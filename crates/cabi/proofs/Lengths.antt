@@ -1,0 +1,42 @@
+-- Whether the lent slices are long enough: the cases.
+use mathlib.Core.Path.{_≡_, ap, _∙_}
+use mathlib.Core.Bool.{Bool}
+use mathlib.Core.List.{List}
+use Prim.Native.Nat.{ℕ, _<_, _≤_}
+use lib.ListN.{length}
+use Rattle.lists.specs.Pick.{pick}
+use Rattle.lists.proofs.Laws.{tests}
+use Rattle.table.specs.Limits.{limits}
+use Rattle.table.specs.Valid.{valid}
+use Rattle.cabi.specs.Exported.{recordIn, ifFewer, ifShort, checkNumber}
+
+pub fewer : {A : Type 0} (n : ℕ) (slice : List ℕ) (a b : A) → length slice < n → ifFewer n slice a b ≡ a
+unfolding ifFewer
+fewer n slice a b h = search tests
+
+pub enough : {A : Type 0} (n : ℕ) (slice : List ℕ) (a b : A) → n ≤ length slice → ifFewer n slice a b ≡ b
+unfolding ifFewer
+enough n slice a b h = search tests
+
+pub short-record : {A : Type 0} (n : ℕ) (rec result : List ℕ) (a b : A) → length rec < 7 → ifShort n rec result a b ≡ a
+unfolding ifShort
+short-record n rec result a b h = fewer 7 rec a (ifFewer n result a b) h
+
+pub short-result : {A : Type 0} (n : ℕ) (rec result : List ℕ) (a b : A) → 7 ≤ length rec → length result < n → ifShort n rec result a b ≡ a
+unfolding ifShort
+short-result n rec result a b h k = enough 7 rec a (ifFewer n result a b) h ∙ fewer n result a b k
+
+pub long-enough : {A : Type 0} (n : ℕ) (rec result : List ℕ) (a b : A) → 7 ≤ length rec → n ≤ length result → ifShort n rec result a b ≡ b
+unfolding ifShort
+long-enough n rec result a b h k = enough 7 rec a (ifFewer n result a b) h ∙ enough n result a b k
+
+-- the test behind 60, on a record of too few numbers and on one of seven
+pub unchecked : (rec states codes infos order : List ℕ) → length rec < 7 → checkNumber rec states codes infos order ≡ 70
+unfolding checkNumber
+unchecked rec states codes infos order h = fewer 7 rec 70 (pick (valid limits (recordIn rec) states codes infos order) 0 60) h
+
+pub checked : (rec states codes infos order : List ℕ) (b : Bool) → 7 ≤ length rec → valid limits (recordIn rec) states codes infos order ≡ b
+    → checkNumber rec states codes infos order ≡ pick b 0 60
+unfolding checkNumber
+checked rec states codes infos order b h e =
+    enough 7 rec 70 (pick (valid limits (recordIn rec) states codes infos order) 0 60) h ∙ ap (λ (t : Bool). pick t 0 60) e

@@ -1,0 +1,91 @@
+-- What the exported functions answer, and what they leave in the lent slices.
+use Prim.Native.Nat.{ℕ}
+use mathlib.Core.Bool.{Bool, not}
+use mathlib.Core.List.{List, [], _∷_}
+use lib.Dec.{eqb, ltb}
+use lib.ListN.{length, getD}
+use Rattle.lists.specs.Pick.{pick}
+use Rattle.lists.specs.Place.{placed}
+use Rattle.table.specs.Limits.{limits}
+use Rattle.table.specs.Valid.{valid}
+use Rattle.table.specs.Numbers.{numberOf}
+use Rattle.table.specs.declared.valid.Record.{Record}
+use Rattle.table.specs.declared.load.Answer.{Answer}
+use Rattle.table.specs.declared.load.Answer.the-variants.{Accepted, Refused}
+use Rattle.table.specs.declared.load.Loaded.{Loaded}
+use Rattle.table.specs.declared.states.Code.{Code}
+use Rattle.convert.specs.Run.{Run}
+use Rattle.convert.specs.Step.{utf8}
+use Rattle.convert.specs.Convert.{toTested, fromTested}
+use Rattle.audit.specs.Audit.{Answer as AuditAnswer, auditTested}
+use Rattle.audit.specs.declared.Audited.{Audited}
+
+-- the record that seven numbers stand for
+abbrev pub recordIn : List ℕ → Record
+recordIn ns =
+    record {
+      rows = getD ns 0 0;
+      mappings = getD ns 1 0;
+      min = getD ns 2 0;
+      max = getD ns 3 0;
+      subchar = record { bits = getD ns 4 0; len = getD ns 5 0 };
+      subchar1 = getD ns 6 0;
+    }
+
+-- a setting: 0 is off, anything else on
+abbrev pub isOn : ℕ → Bool
+isOn n = not (eqb n 0)
+
+-- the first where the slice has fewer than n numbers, else the second
+unfoldable pub ifFewer : {A : Type 0} → ℕ → List ℕ → A → A → A
+ifFewer n slice short done = pick (ltb (length slice) n) short done
+
+-- the first where the record has fewer than seven numbers or the result slice fewer than n, else the second
+unfoldable pub ifShort : {A : Type 0} → ℕ → List ℕ → List ℕ → A → A → A
+ifShort n rec result short done = ifFewer 7 rec short (ifFewer n result short done)
+
+-- the result slice with these numbers at its front
+abbrev pub withNumbers : List ℕ → List ℕ → List ℕ
+withNumbers ns old = placed old 0 ns
+
+-- document 01's number for the answer to a text
+abbrev pub answerNumber : Answer → ℕ
+answerNumber Accepted = 0
+answerNumber (Refused x) = numberOf x
+
+-- what loading hands back beside its number: the line, then the record's seven numbers
+abbrev pub loadedNumbers : Loaded → List ℕ
+loadedNumbers l =
+    l .line ∷ l .table .rows ∷ l .table .mappings ∷ l .table .min ∷ l .table .max
+    ∷ l .table .subchar .bits ∷ l .table .subchar .len ∷ l .table .subchar1 ∷ []
+
+-- oboepond_check: 0 where record and memory pass the test behind 60
+unfoldable pub checkNumber : List ℕ → List ℕ → List ℕ → List ℕ → List ℕ → ℕ
+checkNumber rec states codes infos order =
+    ifFewer 7 rec 70 (pick (valid limits (recordIn rec) states codes infos order) 0 60)
+
+-- what a conversion hands back beside its number: bytes read, bytes written
+abbrev pub runNumbers : Run → List ℕ
+runNumbers r = r .read ∷ length (r .bytes) ∷ []
+
+-- oboepond_to_utf8's conversion, with space for `room` bytes
+abbrev pub toExported : List ℕ → List ℕ → List ℕ → List ℕ → List ℕ → ℕ → List ℕ → ℕ → Run
+toExported rec states codes infos order substitute input room =
+    toTested utf8 limits (recordIn rec) states codes infos order (isOn substitute) input room
+
+-- oboepond_from_utf8's conversion
+abbrev pub fromExported : List ℕ → List ℕ → List ℕ → List ℕ → List ℕ → ℕ → ℕ → List ℕ → ℕ → Run
+fromExported rec states codes infos order fallback substitute input room =
+    fromTested utf8 limits (recordIn rec) states codes infos order (isOn fallback) (isOn substitute) input room
+
+-- what an audit call hands back beside its number: entries written, the position's bits and length, 1 where finished, the count
+abbrev pub auditedNumbers : Audited → List ℕ
+auditedNumbers a = a .written ∷ a .position .bits ∷ a .position .len ∷ pick (a .finished) 1 0 ∷ a .count ∷ []
+
+abbrev pub positionAt : ℕ → ℕ → Code
+positionAt bits len = record { bits = bits; len = len }
+
+-- oboepond_audit's call, with space for `space` entries
+abbrev pub auditExported : List ℕ → List ℕ → List ℕ → List ℕ → List ℕ → ℕ → ℕ → ℕ → ℕ → ℕ → AuditAnswer
+auditExported rec states codes infos order fallback bits len allowance space =
+    auditTested limits (recordIn rec) states codes infos order (isOn fallback) (positionAt bits len) allowance space

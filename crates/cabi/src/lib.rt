@@ -1,0 +1,308 @@
+// The functions for C and Rust: each takes its arguments apart, calls the library, and puts the results into lent slices.
+use audit::Audited;
+use convert::Done;
+use table::load::Answer;
+use table::load::Loaded;
+use table::load::Refusal;
+use table::states::Code;
+use table::valid::Record;
+ghost use mathlib.Core.Path.{_≡_};
+ghost use mathlib.Core.List.{[], _∷_};
+ghost use Prim.Native.Nat.{_≤_};
+ghost use lib.ListN.{length};
+ghost use Rattle.lists.specs.Pick.{pick};
+ghost use Rattle.table.specs.Limits.{limits};
+ghost use Rattle.table.specs.Numbers.{numberOf};
+ghost use Rattle.table.specs.Load.{givenBy, loadedBy, leftBy, statesOf, codesOf, infosOf, orderedOf};
+ghost use Rattle.convert.specs.Run.{putOut, haltNumber};
+ghost use Rattle.audit.specs.Audit.{auditedOf, spaceAfter, numberOf as endingNumber};
+ghost use Rattle.cabi.specs.Exported.{recordIn, ifFewer, ifShort, withNumbers, answerNumber, loadedNumbers, checkNumber, runNumbers, toExported, fromExported, auditedNumbers, auditExported};
+
+// This layer's own number: a record or a result slice is too short, and nothing else happened.
+const SHORT: u32 = 70;
+
+// The numbers of a record.
+const RECORD: usize = 7;
+
+// The record that seven numbers stand for.
+fn record_in(numbers: &[u32]) -> Record
+    requires { ⌜ 7 ≤ length (now numbers) ⌝ }
+    ensures { λ r. ⌜ r ≡ recordIn (now (numbers .entry)) ⌝ }
+{
+    Record {
+        rows: numbers[0],
+        mappings: numbers[1],
+        min: numbers[2],
+        max: numbers[3],
+        subchar: Code {
+            bits: numbers[4],
+            len: numbers[5],
+        },
+        subchar1: numbers[6],
+    }
+}
+
+// Puts numbers at the front of a result slice.
+fn put_numbers(numbers: &[u64], result: &mut [u64])
+    requires { ⌜ length (now numbers) ≤ length (now result) ⌝ }
+    ensures { λ _. ⌜ now (result .exit) ≡ withNumbers (now (numbers .entry)) (now (result .entry)) ⌝ }
+{
+    let mut i = 0;
+    while i < numbers.len() {
+        result[i] = numbers[i];
+        i += 1;
+    }
+}
+
+// Puts the counts of a conversion, and gives its number.
+fn put_done(done: Done, result: &mut [u64]) -> u32
+    requires { ⌜ 2 ≤ length (now result) ⌝ }
+    ensures { λ r. ⌜ (r ≡ haltNumber (done .halt)) × (now (result .exit) ≡ withNumbers (done .read ∷ done .written ∷ []) (now (result .entry))) ⌝ }
+{
+    let numbers = [done.read as u64, done.written as u64];
+    put_numbers(&numbers, result);
+    let halt = done.halt;
+    convert::halt_number(halt)
+}
+
+// Document 01's number of a refusal.
+fn refusal_number(x: Refusal) -> u32
+    ensures { λ r. ⌜ r ≡ numberOf x ⌝ }
+{
+    match x {
+        Refusal::MemoryTooSmall => 1,
+        Refusal::TextTooLong => 2,
+        Refusal::NoForm => 10,
+        Refusal::KeyAgain => 11,
+        Refusal::UnfitValue => 12,
+        Refusal::KeyAbsent => 13,
+        Refusal::NotBuilt => 14,
+        Refusal::OutOfRange => 15,
+        Refusal::StatesBroken => 16,
+        Refusal::NoScalar => 20,
+        Refusal::NoSuchCode => 21,
+        Refusal::LeadingZero => 22,
+        Refusal::NoSubchar1 => 23,
+        Refusal::BytesTaken => 24,
+        Refusal::PointTaken => 25,
+        Refusal::TooMany => 26,
+        Refusal::NoEnd => 27,
+    }
+}
+
+// The number of the answer to a text.
+fn answer_number(a: Answer) -> u32
+    ensures { λ r. ⌜ r ≡ answerNumber a ⌝ }
+{
+    match a {
+        Answer::Accepted => 0,
+        Answer::Refused(x) => refusal_number(x),
+    }
+}
+
+// Puts line and record of a loaded text, and gives its number.
+fn put_loaded(loaded: Loaded, result: &mut [u64]) -> u32
+    requires { ⌜ 8 ≤ length (now result) ⌝ }
+    ensures { λ r. ⌜ (r ≡ answerNumber (loaded .answer)) × (now (result .exit) ≡ withNumbers (loadedNumbers loaded) (now (result .entry))) ⌝ }
+{
+    let held = loaded.table;
+    let sub = held.subchar;
+    let numbers = [
+        loaded.line as u64,
+        held.rows as u64,
+        held.mappings as u64,
+        held.min as u64,
+        held.max as u64,
+        sub.bits as u64,
+        sub.len as u64,
+        held.subchar1 as u64,
+    ];
+    put_numbers(&numbers, result);
+    let answer = loaded.answer;
+    answer_number(answer)
+}
+
+// Loads a table's text into lent memory.
+#[no_mangle]
+pub extern "C" fn oboepond_load(
+    text: &[u8],
+    states: &mut [u16],
+    codes: &mut [u32],
+    infos: &mut [u32],
+    order: &mut [u32],
+    result: &mut [u64],
+) -> u32
+    ensures { λ r. ⌜ (r ≡ ifFewer 8 (now (result .entry)) 70 (answerNumber (loadedBy (givenBy limits (now (text .entry)) (length (now (states .entry))) (length (now (codes .entry))) (length (now (infos .entry))) (length (now (order .entry)))) .answer)))
+        × (now (states .exit) ≡ ifFewer 8 (now (result .entry)) (now (states .entry)) (leftBy 4096 statesOf (givenBy limits (now (text .entry)) (length (now (states .entry))) (length (now (codes .entry))) (length (now (infos .entry))) (length (now (order .entry)))) (now (states .entry))))
+        × (now (codes .exit) ≡ ifFewer 8 (now (result .entry)) (now (codes .entry)) (leftBy 2048 codesOf (givenBy limits (now (text .entry)) (length (now (states .entry))) (length (now (codes .entry))) (length (now (infos .entry))) (length (now (order .entry)))) (now (codes .entry))))
+        × (now (infos .exit) ≡ ifFewer 8 (now (result .entry)) (now (infos .entry)) (leftBy 2048 infosOf (givenBy limits (now (text .entry)) (length (now (states .entry))) (length (now (codes .entry))) (length (now (infos .entry))) (length (now (order .entry)))) (now (infos .entry))))
+        × (now (order .exit) ≡ ifFewer 8 (now (result .entry)) (now (order .entry)) (leftBy 2048 orderedOf (givenBy limits (now (text .entry)) (length (now (states .entry))) (length (now (codes .entry))) (length (now (infos .entry))) (length (now (order .entry)))) (now (order .entry))))
+        × (now (result .exit) ≡ ifFewer 8 (now (result .entry)) (now (result .entry)) (withNumbers (loadedNumbers (loadedBy (givenBy limits (now (text .entry)) (length (now (states .entry))) (length (now (codes .entry))) (length (now (infos .entry))) (length (now (order .entry)))))) (now (result .entry)))) ⌝ }
+{
+    if result.len() < 8 {
+        return SHORT;
+    }
+    let loaded = table::load::load(text, states, codes, infos, order);
+    put_loaded(loaded, result)
+}
+
+// The test behind number 60.
+#[no_mangle]
+pub extern "C" fn oboepond_check(
+    rec: &[u32],
+    states: &[u16],
+    codes: &[u32],
+    infos: &[u32],
+    order: &[u32],
+) -> u32
+    ensures { λ r. ⌜ r ≡ checkNumber (now (rec .entry)) (now (states .entry)) (now (codes .entry)) (now (infos .entry)) (now (order .entry)) ⌝ }
+{
+    if rec.len() < RECORD {
+        return SHORT;
+    }
+    let held = record_in(rec);
+    if table::valid::memory_valid(held, states, codes, infos, order) {
+        return 0;
+    }
+    60
+}
+
+// From a table's bytes to UTF-8.
+#[no_mangle]
+pub extern "C" fn oboepond_to_utf8(
+    rec: &[u32],
+    states: &[u16],
+    codes: &[u32],
+    infos: &[u32],
+    order: &[u32],
+    input: &[u8],
+    output: &mut [u8],
+    substitute: u32,
+    result: &mut [u64],
+) -> u32
+    ensures { λ r. ⌜ (r ≡ ifShort 2 (now (rec .entry)) (now (result .entry)) 70
+        (haltNumber (toExported (now (rec .entry)) (now (states .entry)) (now (codes .entry)) (now (infos .entry)) (now (order .entry)) substitute (now (input .entry)) (length (now (output .entry))) .halt)))
+        × (now (output .exit) ≡ ifShort 2 (now (rec .entry)) (now (result .entry)) (now (output .entry))
+        (putOut (toExported (now (rec .entry)) (now (states .entry)) (now (codes .entry)) (now (infos .entry)) (now (order .entry)) substitute (now (input .entry)) (length (now (output .entry)))) (now (output .entry))))
+        × (now (result .exit) ≡ ifShort 2 (now (rec .entry)) (now (result .entry)) (now (result .entry))
+        (withNumbers (runNumbers (toExported (now (rec .entry)) (now (states .entry)) (now (codes .entry)) (now (infos .entry)) (now (order .entry)) substitute (now (input .entry)) (length (now (output .entry))))) (now (result .entry)))) ⌝ }
+{
+    if rec.len() < RECORD {
+        return SHORT;
+    }
+    if result.len() < 2 {
+        return SHORT;
+    }
+    let held = record_in(rec);
+    let on = substitute != 0;
+    let done = convert::to_utf8(held, states, codes, infos, order, input, output, on);
+    put_done(done, result)
+}
+
+// From UTF-8 to a table's bytes.
+#[no_mangle]
+pub extern "C" fn oboepond_from_utf8(
+    rec: &[u32],
+    states: &[u16],
+    codes: &[u32],
+    infos: &[u32],
+    order: &[u32],
+    input: &[u8],
+    output: &mut [u8],
+    fallback: u32,
+    substitute: u32,
+    result: &mut [u64],
+) -> u32
+    ensures { λ r. ⌜ (r ≡ ifShort 2 (now (rec .entry)) (now (result .entry)) 70
+        (haltNumber (fromExported (now (rec .entry)) (now (states .entry)) (now (codes .entry)) (now (infos .entry)) (now (order .entry)) fallback substitute (now (input .entry)) (length (now (output .entry))) .halt)))
+        × (now (output .exit) ≡ ifShort 2 (now (rec .entry)) (now (result .entry)) (now (output .entry))
+        (putOut (fromExported (now (rec .entry)) (now (states .entry)) (now (codes .entry)) (now (infos .entry)) (now (order .entry)) fallback substitute (now (input .entry)) (length (now (output .entry)))) (now (output .entry))))
+        × (now (result .exit) ≡ ifShort 2 (now (rec .entry)) (now (result .entry)) (now (result .entry))
+        (withNumbers (runNumbers (fromExported (now (rec .entry)) (now (states .entry)) (now (codes .entry)) (now (infos .entry)) (now (order .entry)) fallback substitute (now (input .entry)) (length (now (output .entry))))) (now (result .entry)))) ⌝ }
+{
+    if rec.len() < RECORD {
+        return SHORT;
+    }
+    if result.len() < 2 {
+        return SHORT;
+    }
+    let held = record_in(rec);
+    let falls = fallback != 0;
+    let on = substitute != 0;
+    let done = convert::from_utf8(held, states, codes, infos, order, input, output, falls, on);
+    put_done(done, result)
+}
+
+// 1 for yes, 0 for no.
+fn flag(yes: bool) -> u64
+    ensures { λ r. ⌜ r ≡ pick yes 1 0 ⌝ }
+{
+    if yes { 1 } else { 0 }
+}
+
+// Puts what an audit call hands back, and gives its number.
+fn put_audited(audited: Audited, result: &mut [u64]) -> u32
+    requires { ⌜ 5 ≤ length (now result) ⌝ }
+    ensures { λ r. ⌜ (r ≡ endingNumber (audited .ending)) × (now (result .exit) ≡ withNumbers (auditedNumbers audited) (now (result .entry))) ⌝ }
+{
+    let position = audited.position;
+    let finished = flag(audited.finished);
+    let numbers = [
+        audited.written as u64,
+        position.bits as u64,
+        position.len as u64,
+        finished,
+        audited.count,
+    ];
+    put_numbers(&numbers, result);
+    let ending = audited.ending;
+    audit::ending_number(ending)
+}
+
+// One call of the audit.
+#[no_mangle]
+pub extern "C" fn oboepond_audit(
+    rec: &[u32],
+    states: &[u16],
+    codes: &[u32],
+    infos: &[u32],
+    order: &[u32],
+    fallback: u32,
+    bits: u32,
+    len: u32,
+    allowance: u64,
+    entries: &mut [u64],
+    result: &mut [u64],
+) -> u32
+    ensures { λ r. ⌜ (r ≡ ifShort 5 (now (rec .entry)) (now (result .entry)) 70
+        (endingNumber ((auditExported (now (rec .entry)) (now (states .entry)) (now (codes .entry)) (now (infos .entry)) (now (order .entry)) fallback bits len allowance (length (now (entries .entry)))) .ending)))
+        × (now (entries .exit) ≡ ifShort 5 (now (rec .entry)) (now (result .entry)) (now (entries .entry))
+        (spaceAfter (auditExported (now (rec .entry)) (now (states .entry)) (now (codes .entry)) (now (infos .entry)) (now (order .entry)) fallback bits len allowance (length (now (entries .entry)))) (now (entries .entry))))
+        × (now (result .exit) ≡ ifShort 5 (now (rec .entry)) (now (result .entry)) (now (result .entry))
+        (withNumbers (auditedNumbers (auditedOf (auditExported (now (rec .entry)) (now (states .entry)) (now (codes .entry)) (now (infos .entry)) (now (order .entry)) fallback bits len allowance (length (now (entries .entry)))))) (now (result .entry)))) ⌝ }
+{
+    if rec.len() < RECORD {
+        return SHORT;
+    }
+    if result.len() < 5 {
+        return SHORT;
+    }
+    let held = record_in(rec);
+    let falls = fallback != 0;
+    let position = Code {
+        bits: bits,
+        len: len,
+    };
+    let audited = audit::audit(
+        held,
+        states,
+        codes,
+        infos,
+        order,
+        falls,
+        position,
+        allowance,
+        entries,
+    );
+    put_audited(audited, result)
+}

@@ -1,0 +1,166 @@
+/*
+ * Oboepond: conversion between a code page and UTF-8, by a conversion table in lent memory.
+ *
+ * No function keeps anything between calls or takes memory of its own. Each is proved: for every
+ * content of the slices it answers what is written here, ends, and touches no other memory.
+ * The caller sees to it that each pointer is not null, is aligned for its type and has the stated
+ * number of elements behind it (a pointer of length 0 too is not null), and that no slice that is
+ * written overlaps another.
+ *
+ * Slices that hold a table:
+ *   states   4,096 numbers are needed, 256 for each row
+ *   codes, infos, order   2,048 numbers each are needed
+ *   record   7 numbers: rows, mappings, mb_cur_min, mb_cur_max, subchar's bits, subchar's length,
+ *            subchar1 (0 where there is none, else 1 + its byte)
+ * A code's bits hold its bytes with the first one on top: 81 7C is 0x817C0000, of length 2.
+ * Numbers past the needed ones are never touched.
+ *
+ * Every function answers OBOEPOND_SHORT (70) where `record` or `result` has fewer numbers than it
+ * says: then nothing is written anywhere. A `result` longer than said keeps the rest of its values.
+ */
+#ifndef OBOEPOND_H
+#define OBOEPOND_H
+
+#include <stddef.h>
+#include <stdint.h>
+
+#ifdef __cplusplus
+extern "C" {
+#endif
+
+/* The numbers that a needed slice has. */
+#define OBOEPOND_STATES 4096
+#define OBOEPOND_MAPPINGS 2048
+#define OBOEPOND_RECORD 7
+
+/* Done: the text is accepted; the table is valid; all is read; codes were looked at. */
+#define OBOEPOND_OK 0
+
+/* A text is refused. 1 and 2 come first and name line 0; otherwise the first line at which something
+ * is wrong is named, counted from 1, with the lowest number that holds there. */
+#define OBOEPOND_MEMORY_TOO_SMALL 1 /* states, codes, infos or order is shorter than needed */
+#define OBOEPOND_TEXT_TOO_LONG 2    /* over 1,048,576 bytes */
+#define OBOEPOND_NO_FORM 10         /* a line of no known form */
+#define OBOEPOND_KEY_AGAIN 11       /* a key that may stand once stands again */
+#define OBOEPOND_UNFIT_VALUE 12     /* a known key with a value of the wrong form */
+#define OBOEPOND_KEY_ABSENT 13      /* at CHARMAP a required key or state row is absent */
+#define OBOEPOND_NOT_BUILT 14       /* a form that is not built: classes DBCS and EBCDIC_STATEFUL, icu:base,
+                                       surrogates, `initial` off row 0, letter s, an end with a next row other
+                                       than 0, a second CHARMAP, indicator 4, several code points or a + in a mapping */
+#define OBOEPOND_OUT_OF_RANGE 15    /* a falling range, a next row over 7f, or a 17th row */
+#define OBOEPOND_STATES_BROKEN 16   /* at CHARMAP: a row led to is absent or row 0; a way is longer than mb_cur_max;
+                                       subchar or subchar1 is no complete code (subchar1: of one byte);
+                                       mb_cur_min is over mb_cur_max */
+#define OBOEPOND_NO_SCALAR 20       /* a mapping's code point is a surrogate or over U+10FFFF */
+#define OBOEPOND_NO_SUCH_CODE 21    /* its bytes are no complete code of mb_cur_min to mb_cur_max bytes that can be
+                                       assigned, or the code point is over U+FFFF and the code's end has no p */
+#define OBOEPOND_LEADING_ZERO 22    /* a |0 or |1 line with a code of several bytes that begins 00 */
+#define OBOEPOND_NO_SUBCHAR1 23     /* a |2 line whose bytes are not the subchar1 byte */
+#define OBOEPOND_BYTES_TAKEN 24     /* an earlier |0 or |3 line reads these bytes */
+#define OBOEPOND_POINT_TAKEN 25     /* an earlier |0, |1 or |2 line has this code point */
+#define OBOEPOND_TOO_MANY 26        /* the 2,049th mapping */
+#define OBOEPOND_NO_END 27          /* END CHARMAP never came; the line is the count of lines plus 1 */
+
+/* An audit call is refused. */
+#define OBOEPOND_BAD_POSITION 40 /* the position is neither the beginning nor a complete code */
+
+/* A conversion ends before all is read, at the first sequence for which one holds; of several at one
+ * place the order is 51, 52, 53, 50. */
+#define OBOEPOND_FULL 50       /* what the sequence gives does not fit into the output */
+#define OBOEPOND_CUT_SHORT 51  /* the input ends inside a sequence */
+#define OBOEPOND_ILLEGAL 52    /* the sequence is illegal */
+#define OBOEPOND_UNASSIGNED 53 /* the sequence is unassigned, and substituting is off */
+
+/* Record and memory are not what an accepted text leaves. */
+#define OBOEPOND_BAD_TABLE 60
+
+/* `record` or `result` is too short; this interface's own number. */
+#define OBOEPOND_SHORT 70
+
+/*
+ * Loads a table's text. Answers 0, or 1 to 27 as above; 70 where result has fewer than 8 numbers.
+ * result: the line (0 where accepted, and with 1 and 2), then the seven numbers of the record.
+ * Accepted: the slices hold the table, with zeros in the needed places that it does not use.
+ * Refused: the record is zeros; with 1 and 2 the slices keep their values, with any other number all
+ * needed places are zeros.
+ */
+uint32_t oboepond_load(const uint8_t *text, size_t text_len,
+                       uint16_t *states, size_t states_len,
+                       uint32_t *codes, size_t codes_len,
+                       uint32_t *infos, size_t infos_len,
+                       uint32_t *order, size_t order_len,
+                       uint64_t *result, size_t result_len);
+
+/*
+ * Tests whether record and memory are as an accepted text leaves them: 0 if so, else 60; 70 where
+ * record has fewer than 7 numbers. Writes nothing.
+ */
+uint32_t oboepond_check(const uint32_t *record, size_t record_len,
+                        const uint16_t *states, size_t states_len,
+                        const uint32_t *codes, size_t codes_len,
+                        const uint32_t *infos, size_t infos_len,
+                        const uint32_t *order, size_t order_len);
+
+/*
+ * From the table's bytes to UTF-8. substitute 0 is strict; with anything else an unassigned code gives
+ * U+001A where it has one byte and the table has a subchar1, else U+FFFD.
+ * Answers 0, 50 to 53 or 60; 70 where record has fewer than 7 numbers or result fewer than 2.
+ * result: bytes read, bytes written. Reading stops before the sequence that the number is about, and
+ * what was written before it stands; output bytes past the written count keep their values.
+ * With 60 nothing is read or written: result is 0, 0.
+ */
+uint32_t oboepond_to_utf8(const uint32_t *record, size_t record_len,
+                          const uint16_t *states, size_t states_len,
+                          const uint32_t *codes, size_t codes_len,
+                          const uint32_t *infos, size_t infos_len,
+                          const uint32_t *order, size_t order_len,
+                          const uint8_t *input, size_t input_len,
+                          uint8_t *output, size_t output_len,
+                          uint32_t substitute,
+                          uint64_t *result, size_t result_len);
+
+/*
+ * From UTF-8 to the table's bytes. With fallback other than 0 the |1 lines write too. substitute 0 is
+ * strict; with anything else an unassigned code point gives subchar1 where a |2 line names it, else
+ * subchar. Numbers, result and output as for oboepond_to_utf8.
+ */
+uint32_t oboepond_from_utf8(const uint32_t *record, size_t record_len,
+                            const uint16_t *states, size_t states_len,
+                            const uint32_t *codes, size_t codes_len,
+                            const uint32_t *infos, size_t infos_len,
+                            const uint32_t *order, size_t order_len,
+                            const uint8_t *input, size_t input_len,
+                            uint8_t *output, size_t output_len,
+                            uint32_t fallback, uint32_t substitute,
+                            uint64_t *result, size_t result_len);
+
+/*
+ * One call of the audit: looks at the complete codes after a position, in byte order, and writes an
+ * entry for each that does not come home (does not read as a code point which, strict and under the
+ * same fallback setting, is written as the same code). The position is a code's bits and length;
+ * length 0 with bits 0 is the beginning. Each code looked at takes one from the allowance; the call
+ * stops when that is used, when no code is left, or before a code whose entry has no place.
+ * An entry is the code's bits + 2^32 * its length + 2^40 * its cause: 1, it is ended by u; 2, no line
+ * reads it; 3, it reads but is written as another code; 4, it reads but is not written; the lowest
+ * that holds.
+ * Answers 0, 60 or 40 (60 goes before 40); 70 where record has fewer than 7 numbers or result fewer
+ * than 5.
+ * result: entries written, bits and length of the last code looked at (or the position as it came),
+ * 1 where no complete code follows it and else 0, codes looked at.
+ * Entries past the written ones keep their values. With 60 and 40 no entry is written, and result is 0,
+ * the position as it came, 0, 0.
+ */
+uint32_t oboepond_audit(const uint32_t *record, size_t record_len,
+                        const uint16_t *states, size_t states_len,
+                        const uint32_t *codes, size_t codes_len,
+                        const uint32_t *infos, size_t infos_len,
+                        const uint32_t *order, size_t order_len,
+                        uint32_t fallback, uint32_t bits, uint32_t len, uint64_t allowance,
+                        uint64_t *entries, size_t entries_len,
+                        uint64_t *result, size_t result_len);
+
+#ifdef __cplusplus
+}
+#endif
+
+#endif

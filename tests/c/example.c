@@ -1,0 +1,52 @@
+/* Loads a small table and converts three of its bytes to UTF-8. Writes the bytes, the number and the bytes read. */
+#include <stdio.h>
+#include <string.h>
+
+#include "oboepond.h"
+
+static const char text[] =
+    "<code_set_name> \"kettle-1\"\n"
+    "<mb_cur_min> 1\n"
+    "<mb_cur_max> 2\n"
+    "<uconv_class> \"MBCS\"\n"
+    "<subchar> \\x3F\n"
+    "<icu:state> 2d, 30, 33, 3f, 81:1\n"
+    "<icu:state> 7c-7d, 80.u\n"
+    "CHARMAP\n"
+    "<U002D> \\x2D |0\n"
+    "<U0030> \\x30 |0\n"
+    "<U0033> \\x33 |0\n"
+    "<U2212> \\x81\\x7C |0\n"
+    "<UFF0D> \\x81\\x7C |1\n"
+    "<U2212> \\x81\\x7D |3\n"
+    "END CHARMAP\n";
+
+static uint16_t states[OBOEPOND_STATES];
+static uint32_t codes[OBOEPOND_MAPPINGS], infos[OBOEPOND_MAPPINGS], order[OBOEPOND_MAPPINGS];
+
+int main(void)
+{
+    static const uint8_t input[] = {0x81, 0x7c, 0x33};
+    uint8_t output[16];
+    uint64_t loaded[1 + OBOEPOND_RECORD], done[2];
+    uint32_t record[OBOEPOND_RECORD];
+
+    uint32_t number = oboepond_load((const uint8_t *)text, strlen(text), states, OBOEPOND_STATES,
+                                    codes, OBOEPOND_MAPPINGS, infos, OBOEPOND_MAPPINGS,
+                                    order, OBOEPOND_MAPPINGS, loaded, 1 + OBOEPOND_RECORD);
+    if (number != OBOEPOND_OK) {
+        printf("refused: %u, line %llu\n", number, (unsigned long long)loaded[0]);
+        return 1;
+    }
+    for (size_t i = 0; i < OBOEPOND_RECORD; i++)
+        record[i] = (uint32_t)loaded[1 + i];
+
+    number = oboepond_to_utf8(record, OBOEPOND_RECORD, states, OBOEPOND_STATES,
+                              codes, OBOEPOND_MAPPINGS, infos, OBOEPOND_MAPPINGS,
+                              order, OBOEPOND_MAPPINGS, input, sizeof input,
+                              output, sizeof output, 0, done, 2);
+    for (uint64_t i = 0; i < done[1]; i++)
+        printf("%02X ", output[i]);
+    printf("number %u, read %llu\n", number, (unsigned long long)done[0]);
+    return number == OBOEPOND_OK ? 0 : 1;
+}

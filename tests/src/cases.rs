@@ -1,0 +1,1836 @@
+//! The hand-written cases: document 01's own, the readings, and for every
+//! number several texts. One list; it runs against the oracle and against the
+//! library alike. Expected values are written by hand, never computed by the
+//! oracle.
+
+use crate::oracle::{Audited, Loaded, Memory, Piped, Record, MAPPING_PLACES, STATE_PLACES};
+use crate::subject::Subject;
+
+type Run = Box<dyn Fn(&dyn Subject) -> Result<(), String>>;
+
+pub struct Case {
+    pub name: String,
+    pub run: Run,
+}
+
+// ---------------------------------------------------------------------------
+// Table K and its changes
+// ---------------------------------------------------------------------------
+
+pub const K: &str = "<code_set_name> \"kettle-1\"
+<mb_cur_min> 1
+<mb_cur_max> 2
+<uconv_class> \"MBCS\"
+<subchar> \\x3F
+<icu:state> 2d, 30, 33, 3f, 81:1
+<icu:state> 7c-7d, 80.u
+CHARMAP
+<U002D> \\x2D |0
+<U0030> \\x30 |0
+<U0033> \\x33 |0
+<U2212> \\x81\\x7C |0
+<UFF0D> \\x81\\x7C |1
+<U2212> \\x81\\x7D |3
+END CHARMAP
+";
+
+const K_RECORD: Record = [2, 6, 1, 2, 0x3f00_0000, 1, 0];
+/// Row, first byte, last byte, number.
+const K_STATES: &[(usize, usize, usize, u16)] = &[
+    (0, 0x2d, 0x2d, 1),
+    (0, 0x30, 0x30, 1),
+    (0, 0x33, 0x33, 1),
+    (0, 0x3f, 0x3f, 1),
+    (0, 0x81, 0x81, 17),
+    (1, 0x7c, 0x7d, 1),
+    (1, 0x80, 0x80, 3),
+];
+/// Numbers of `codes` and `infos`.
+const K_ENTRIES: &[(u32, u32)] = &[
+    (0x2d00_0000, 0x0000_002d),
+    (0x3000_0000, 0x0000_0030),
+    (0x3300_0000, 0x0000_0033),
+    (0x817c_0000, 0x0100_2212),
+    (0x817c_0000, 0x0140_ff0d),
+    (0x817d_0000, 0x0120_2212),
+];
+const K_ORDER: &[u32] = &[0, 1, 2, 3, 5, 4];
+
+type Bytes = Vec<u8>;
+
+fn k_lines() -> Vec<Bytes> {
+    K.lines().map(|l| l.as_bytes().to_vec()).collect()
+}
+
+fn joined(lines: &[Bytes]) -> Bytes {
+    lines.iter().flat_map(|l| [l.as_slice(), b"\n"].concat()).collect()
+}
+
+/// K with line n (from 1) replaced.
+fn k_line(n: usize, line: impl AsRef<[u8]>) -> Bytes {
+    let mut lines = k_lines();
+    lines[n - 1] = line.as_ref().to_vec();
+    joined(&lines)
+}
+
+/// K with a line put in so that it is line n.
+fn k_insert(n: usize, line: impl AsRef<[u8]>) -> Bytes {
+    let mut lines = k_lines();
+    lines.insert(n - 1, line.as_ref().to_vec());
+    joined(&lines)
+}
+
+fn k_delete(n: usize) -> Bytes {
+    let mut lines = k_lines();
+    lines.remove(n - 1);
+    joined(&lines)
+}
+
+/// K with several lines replaced.
+fn k_change(changes: &[(usize, &str)]) -> Bytes {
+    let mut lines = k_lines();
+    for (n, line) in changes {
+        lines[n - 1] = line.as_bytes().to_vec();
+    }
+    joined(&lines)
+}
+
+/// A text from its parts: header values, rows, mapping lines.
+fn text(min: u32, max: u32, class: &str, subchar: &str, rows: &[&str], lines: &[&str]) -> Bytes {
+    let mut t = format!(
+        "<code_set_name> \"t\"\n<mb_cur_min> {min}\n<mb_cur_max> {max}\n\
+         <uconv_class> \"{class}\"\n{subchar}\n"
+    );
+    for row in rows {
+        t += &format!("<icu:state> {row}\n");
+    }
+    t += "CHARMAP\n";
+    for line in lines {
+        t += &format!("{line}\n");
+    }
+    t += "END CHARMAP\n";
+    t.into_bytes()
+}
+
+fn mbcs(max: u32, subchar: &str, rows: &[&str], lines: &[&str]) -> Bytes {
+    text(1, max, "MBCS", &format!("<subchar> {subchar}"), rows, lines)
+}
+
+/// SBCS without rows: one row 0-ff.
+fn sbcs(subchar: &str, lines: &[&str]) -> Bytes {
+    text(1, 1, "SBCS", subchar, &[], lines)
+}
+
+/// `n` distinct mappings of two bytes: line 8 is CHARMAP, mapping i is line 8 + i.
+fn many(n: usize) -> Bytes {
+    let lines: Vec<String> = (0..n)
+        .map(|i| format!("<U{:04X}> \\x{:02X}\\x{:02X} |0", 0x100 + i, 1 + i / 256, i % 256))
+        .collect();
+    let lines: Vec<&str> = lines.iter().map(|l| l.as_str()).collect();
+    mbcs(2, "\\x01\\x01", &["0-ff:1", "0-ff"], &lines)
+}
+
+fn with_cr_lf(text: &[u8]) -> Bytes {
+    text.iter().flat_map(|&b| if b == b'\n' { vec![b'\r', b'\n'] } else { vec![b] }).collect()
+}
+
+/// Blanks around every line, a comment behind it, a comment line and a blank
+/// line before it: line n becomes line 3n.
+fn dressed(text: &[u8]) -> Bytes {
+    let mut out = Vec::new();
+    for line in text.split_inclusive(|&b| b == b'\n') {
+        let line = line.strip_suffix(b"\n").unwrap_or(line);
+        out.extend(b"# a comment \xff\r with \" and <U0041>\r\n \t \r\n\t ");
+        out.extend(line);
+        out.extend(b" \t# CHARMAP \" \x80\r#\r\n");
+    }
+    out
+}
+
+// ---------------------------------------------------------------------------
+// Running a case
+// ---------------------------------------------------------------------------
+
+/// Memory full of old values, `extra` places longer than needed.
+pub fn junk(extra: usize) -> Memory {
+    let n = STATE_PLACES + extra;
+    let m = MAPPING_PLACES + extra;
+    Memory {
+        states: (0..n).map(|i| (i as u16).wrapping_mul(40_503) | 1).collect(),
+        codes: (0..m).map(|i| (i as u32).wrapping_mul(2_654_435_761) | 1).collect(),
+        infos: (0..m).map(|i| (i as u32).wrapping_mul(2_246_822_519) | 1).collect(),
+        order: (0..m).map(|i| (i as u32).wrapping_mul(3_266_489_917) | 1).collect(),
+    }
+}
+
+/// Old values of an output.
+pub fn old_bytes(n: usize) -> Vec<u8> {
+    (0..n).map(|i| (i as u8).wrapping_mul(37) ^ 0xa5).collect()
+}
+
+/// Old values of a space for entries.
+pub fn old_entries(n: usize) -> Vec<u64> {
+    (0..n as u64).map(|i| 0xfeed_0000_0000_0000 + i).collect()
+}
+
+pub fn equal<T: PartialEq + std::fmt::Debug>(what: &str, got: T, want: T) -> Result<(), String> {
+    if got == want {
+        Ok(())
+    } else {
+        Err(format!("{what}: got {got:?}, want {want:?}"))
+    }
+}
+
+/// Compares slices, naming the first difference.
+pub fn equal_slices<T: PartialEq + std::fmt::Debug>(
+    what: &str,
+    got: &[T],
+    want: &[T],
+) -> Result<(), String> {
+    equal(&format!("{what}, length"), got.len(), want.len())?;
+    match (0..got.len()).find(|&i| got[i] != want[i]) {
+        None => Ok(()),
+        Some(i) => Err(format!("{what}[{i}]: got {:?}, want {:?}", got[i], want[i])),
+    }
+}
+
+pub fn equal_memory(got: &Memory, want: &Memory) -> Result<(), String> {
+    equal_slices("states", &got.states, &want.states)?;
+    equal_slices("codes", &got.codes, &want.codes)?;
+    equal_slices("infos", &got.infos, &want.infos)?;
+    equal_slices("order", &got.order, &want.order)
+}
+
+/// Refused with this number and line: record of zeros, needed memory zeroed
+/// (1 and 2: untouched), nothing behind it touched.
+fn is_refused(s: &dyn Subject, text: &[u8], number: u32, line: u64) -> Result<(), String> {
+    let mut memory = junk(5);
+    let mut want = memory.clone();
+    if number > 2 {
+        want.set_needed(&Memory::zeros());
+    }
+    let got = s.load(text, &mut memory);
+    equal("answer", got, Loaded { number, line, record: [0; 7] })?;
+    equal_memory(&memory, &want)
+}
+
+/// Accepted: the record and the memory, with nothing behind it touched.
+fn is_accepted(s: &dyn Subject, text: &[u8]) -> Result<(Record, Memory), String> {
+    let mut memory = junk(5);
+    let got = s.load(text, &mut memory);
+    equal("number and line", (got.number, got.line), (0, 0))?;
+    let old = junk(5);
+    equal_slices("states behind", &memory.states[STATE_PLACES..], &old.states[STATE_PLACES..])?;
+    let m = MAPPING_PLACES;
+    equal_slices("codes behind", &memory.codes[m..], &old.codes[m..])?;
+    equal_slices("infos behind", &memory.infos[m..], &old.infos[m..])?;
+    equal_slices("order behind", &memory.order[m..], &old.order[m..])?;
+    Ok((got.record, memory))
+}
+
+/// Accepted with exactly this form.
+fn has_form(
+    s: &dyn Subject,
+    text: &[u8],
+    record: Record,
+    states: &[(usize, usize, usize, u16)],
+    entries: &[(u32, u32)],
+    order: &[u32],
+) -> Result<(), String> {
+    let (got_record, got) = is_accepted(s, text)?;
+    equal("record", got_record, record)?;
+    let mut want = junk(5);
+    want.set_needed(&Memory::zeros());
+    for &(row, from, to, number) in states {
+        want.states[row * 256 + from..=row * 256 + to].fill(number);
+    }
+    for (i, &(code, info)) in entries.iter().enumerate() {
+        want.codes[i] = code;
+        want.infos[i] = info;
+    }
+    want.order[..order.len()].copy_from_slice(order);
+    equal_memory(&got, &want)?;
+    equal("the test behind 60", s.check(&got_record, &got), 0)
+}
+
+fn hex(text: &str) -> Vec<u8> {
+    let digits: Vec<u8> = text.bytes().filter(|b| *b != b' ').collect();
+    digits
+        .chunks(2)
+        .map(|pair| u8::from_str_radix(std::str::from_utf8(pair).unwrap(), 16).unwrap())
+        .collect()
+}
+
+fn position(hex_code: &str) -> (u32, u32) {
+    let code = hex(hex_code);
+    let bits = code.iter().enumerate().fold(0, |n, (i, &b)| n + ((b as u32) << (24 - 8 * i)));
+    (bits, code.len() as u32)
+}
+
+// ---------------------------------------------------------------------------
+// The list
+// ---------------------------------------------------------------------------
+
+pub struct List {
+    pub cases: Vec<Case>,
+}
+
+/// Settings of a conversion.
+#[derive(Clone, Copy)]
+struct Set {
+    fallback: bool,
+    substitute: bool,
+}
+const STRICT: Set = Set { fallback: false, substitute: false };
+const SUBST: Set = Set { fallback: false, substitute: true };
+const FALL: Set = Set { fallback: true, substitute: false };
+const FALL_SUBST: Set = Set { fallback: true, substitute: true };
+
+impl List {
+    fn add(
+        &mut self,
+        name: impl Into<String>,
+        run: impl Fn(&dyn Subject) -> Result<(), String> + 'static,
+    ) {
+        self.cases.push(Case { name: name.into(), run: Box::new(run) });
+    }
+
+    /// Refused as it stands.
+    fn no1(&mut self, name: &str, text: impl AsRef<[u8]>, number: u32, line: u64) {
+        let text = text.as_ref().to_vec();
+        self.add(format!("{name}: {number} at line {line}"), move |s| {
+            is_refused(s, &text, number, line)
+        });
+    }
+
+    /// Refused as it stands, with CR LF, and with comments and blanks around.
+    fn no(&mut self, name: &str, text: impl AsRef<[u8]>, number: u32, line: u64) {
+        let text = text.as_ref();
+        self.no1(name, text, number, line);
+        self.no1(&format!("{name} (CR LF)"), with_cr_lf(text), number, line);
+        let count = text.split_inclusive(|&b| b == b'\n').count() as u64;
+        let line = if number == 27 { 3 * count + 1 } else { 3 * line };
+        self.no1(&format!("{name} (dressed)"), dressed(text), number, line);
+    }
+
+    /// Accepted with the form of K.
+    fn k1(&mut self, name: &str, text: impl AsRef<[u8]>) {
+        let text = text.as_ref().to_vec();
+        self.add(format!("{name}: is K"), move |s| {
+            has_form(s, &text, K_RECORD, K_STATES, K_ENTRIES, K_ORDER)
+        });
+    }
+
+    fn k(&mut self, name: &str, text: impl AsRef<[u8]>) {
+        let text = text.as_ref();
+        self.k1(name, text);
+        self.k1(&format!("{name} (CR LF)"), with_cr_lf(text));
+        self.k1(&format!("{name} (dressed)"), dressed(text));
+    }
+
+    /// Accepted with this record; also with CR LF and dressed.
+    fn yes(&mut self, name: &str, text: impl AsRef<[u8]>, record: Record) {
+        let plain = text.as_ref().to_vec();
+        let texts = [plain.clone(), with_cr_lf(&plain), dressed(&plain)];
+        for (text, how) in texts.into_iter().zip(["", " (CR LF)", " (dressed)"]) {
+            self.add(format!("{name}{how}: accepted"), move |s| {
+                let (got, memory) = is_accepted(s, &text)?;
+                equal("record", got, record)?;
+                equal("the test behind 60", s.check(&got, &memory), 0)
+            });
+        }
+    }
+
+    fn form(
+        &mut self,
+        name: &str,
+        text: impl AsRef<[u8]>,
+        record: Record,
+        states: &'static [(usize, usize, usize, u16)],
+        entries: &'static [(u32, u32)],
+        order: &'static [u32],
+    ) {
+        let text = text.as_ref().to_vec();
+        self.add(format!("{name}: form"), move |s| {
+            has_form(s, &text, record, states, entries, order)
+        });
+    }
+
+    /// To UTF-8: answer, bytes read, output; the rest of the space untouched.
+    #[allow(clippy::too_many_arguments)]
+    fn to(
+        &mut self,
+        name: &str,
+        table: impl AsRef<[u8]>,
+        input: &str,
+        space: usize,
+        set: Set,
+        number: u32,
+        read: u64,
+        out: &str,
+    ) {
+        let (table, input, out) = (table.as_ref().to_vec(), hex(input), hex(out));
+        self.add(format!("to UTF-8, {name}: {number}"), move |s| {
+            let (record, memory) = is_accepted(s, &table)?;
+            let mut output = old_bytes(space);
+            let got = s.to_utf8(&record, &memory, &input, &mut output, set.substitute);
+            equal("answer", got, Piped { number, read, written: out.len() as u64 })?;
+            let mut want = old_bytes(space);
+            want[..out.len()].copy_from_slice(&out);
+            equal_slices("output", &output, &want)
+        });
+    }
+
+    #[allow(clippy::too_many_arguments)]
+    fn from(
+        &mut self,
+        name: &str,
+        table: impl AsRef<[u8]>,
+        input: &str,
+        space: usize,
+        set: Set,
+        number: u32,
+        read: u64,
+        out: &str,
+    ) {
+        let (table, input, out) = (table.as_ref().to_vec(), hex(input), hex(out));
+        self.add(format!("from UTF-8, {name}: {number}"), move |s| {
+            let (record, memory) = is_accepted(s, &table)?;
+            let mut output = old_bytes(space);
+            let (f, u) = (set.fallback, set.substitute);
+            let got = s.from_utf8(&record, &memory, &input, &mut output, f, u);
+            equal("answer", got, Piped { number, read, written: out.len() as u64 })?;
+            let mut want = old_bytes(space);
+            want[..out.len()].copy_from_slice(&out);
+            equal_slices("output", &output, &want)
+        });
+    }
+
+    /// One audit call. Positions are (bits, length).
+    #[allow(clippy::too_many_arguments)]
+    fn audit(
+        &mut self,
+        name: &str,
+        table: impl AsRef<[u8]>,
+        fallback: bool,
+        from: (u32, u32),
+        allowance: u64,
+        space: usize,
+        number: u32,
+        list: &[(&str, u64)],
+        to: (u32, u32),
+        finished: bool,
+        count: u64,
+    ) {
+        let table = table.as_ref().to_vec();
+        let list: Vec<u64> = list
+            .iter()
+            .map(|(code, cause)| {
+                let (bits, len) = position(code);
+                bits as u64 + ((len as u64) << 32) + (cause << 40)
+            })
+            .collect();
+        self.add(format!("audit, {name}: {number}"), move |s| {
+            let (record, memory) = is_accepted(s, &table)?;
+            let mut entries = old_entries(space);
+            let got =
+                s.audit(&record, &memory, fallback, from.0, from.1, allowance, &mut entries);
+            let want = Audited {
+                number,
+                entries: list.len() as u64,
+                bits: to.0,
+                len: to.1,
+                finished,
+                count,
+            };
+            equal("answer", got, want)?;
+            let mut want = old_entries(space);
+            want[..list.len()].copy_from_slice(&list);
+            equal_slices("entries", &entries, &want)
+        });
+    }
+
+    /// The test behind 60 on K's memory after a change; with 60 the pipes and
+    /// the audit must refuse too and leave everything as it was.
+    fn behind60(
+        &mut self,
+        name: &str,
+        want: u32,
+        change: impl Fn(&mut Record, &mut Memory) + 'static,
+    ) {
+        self.behind60_of(name, K, want, change);
+    }
+
+    fn behind60_of(
+        &mut self,
+        name: &str,
+        table: impl AsRef<[u8]>,
+        want: u32,
+        change: impl Fn(&mut Record, &mut Memory) + 'static,
+    ) {
+        let table = table.as_ref().to_vec();
+        self.add(format!("test behind 60, {name}: {want}"), move |s| {
+            let (mut record, mut memory) = is_accepted(s, &table)?;
+            change(&mut record, &mut memory);
+            equal("check", s.check(&record, &memory), want)?;
+            if want == 60 {
+                let none = Piped { number: 60, read: 0, written: 0 };
+                let mut output = old_bytes(9);
+                let got = s.to_utf8(&record, &memory, b"3", &mut output, true);
+                equal("to UTF-8", got, none)?;
+                let got = s.from_utf8(&record, &memory, b"3", &mut output, true, true);
+                equal("from UTF-8", got, none)?;
+                equal_slices("output", &output, &old_bytes(9))?;
+                let mut entries = old_entries(9);
+                // A position that would be 40: 60 comes first.
+                let got = s.audit(&record, &memory, true, 0x8100_0001, 7, 99, &mut entries);
+                let none = Audited {
+                    number: 60,
+                    entries: 0,
+                    bits: 0x8100_0001,
+                    len: 7,
+                    finished: false,
+                    count: 0,
+                };
+                equal("audit", got, none)?;
+                equal_slices("entries", &entries, &old_entries(9))?;
+            }
+            Ok(())
+        });
+    }
+}
+
+pub fn all() -> List {
+    let mut l = List { cases: Vec::new() };
+    document_cases(&mut l);
+    numbers(&mut l);
+    text_readings(&mut l);
+    rule_readings(&mut l);
+    sizes(&mut l);
+    forms(&mut l);
+    behind_60(&mut l);
+    conversions(&mut l);
+    audits(&mut l);
+    l
+}
+
+/// Document 01, cases 1 to 11.
+fn document_cases(l: &mut List) {
+    l.k("K", K);
+    l.to("case 1", K, "817C33", 9, STRICT, 0, 3, "E2889233");
+    l.from("case 2", K, "E2889233", 9, STRICT, 0, 4, "817C33");
+    l.from("case 3, strict", K, "EFBC8D33", 9, STRICT, 53, 0, "");
+    l.from("case 3, substitute", K, "EFBC8D33", 9, SUBST, 0, 4, "3F33");
+    l.from("case 3, fallback", K, "EFBC8D33", 9, FALL, 0, 4, "817C33");
+    l.from("case 3, fallback and substitute", K, "EFBC8D33", 9, FALL_SUBST, 0, 4, "817C33");
+    for (set, how) in [(STRICT, "strict"), (SUBST, "substitute")] {
+        l.to(&format!("case 4, 81, {how}"), K, "81", 9, set, 51, 0, "");
+        l.to(&format!("case 4, 81 2D 33, {how}"), K, "812D33", 9, set, 52, 0, "");
+        l.to(&format!("case 4, empty, {how}"), K, "", 9, set, 0, 0, "");
+    }
+    l.to("case 5, substitute", K, "8180", 9, SUBST, 0, 2, "EFBFBD");
+    l.to("case 5, strict", K, "8180", 9, STRICT, 53, 0, "");
+    l.to("case 6", K, "817C", 2, STRICT, 50, 0, "");
+    let list = [("3F", 2), ("817D", 3), ("8180", 1)];
+    let begin = (0, 0);
+    l.audit("case 7", K, false, begin, 99, 9, 0, &list, position("8180"), true, 7);
+    l.audit("case 8, allowance 0", K, false, begin, 0, 9, 0, &[], begin, false, 0);
+    let lead = position("81");
+    l.audit("case 8, position 81", K, false, lead, 99, 9, 40, &[], lead, false, 0);
+
+    l.no("case 9, line 14 with |0", k_line(14, "<U2212> \\x81\\x7D |0"), 25, 14);
+    l.no("case 9, line 13 with |3", k_line(13, "<UFF0D> \\x81\\x7C |3"), 24, 13);
+    l.no("case 9, mb_cur_max 1", k_line(3, "<mb_cur_max> 1"), 16, 8);
+    l.no1("case 9, empty text", "", 27, 1);
+    let rows = ["0-ff:1", "0-ff:2", "0-ff:3", "0-ff"];
+    let sub = "\\x01\\x02\\x03\\x04";
+    let record = [4, 0, 1, 4, 0x0102_0304, 4, 0];
+    l.yes("case 9, four bytes", mbcs(4, sub, &rows, &[]), record);
+    let rows = ["0-ff:1", "0-ff:2", "0-ff:3", "0-ff:4", "0-ff"];
+    l.no("case 9, five rows deep", mbcs(4, sub, &rows, &[]), 16, 11);
+
+    l.yes("case 10, 2,048 mappings", many(2048), [2, 2048, 1, 2, 0x0101_0000, 2, 0]);
+    l.no("case 10, 2,049 mappings", many(2049), 26, 8 + 2049);
+
+    let lines = ["<U0041> \\x01", "<U2262> \\x02", "<U0391> \\x03", "<U002E> \\x04"];
+    let t = sbcs("<subchar> \\x3f", &lines);
+    l.from("case 11", &t, "41E289A2CE912E", 9, STRICT, 0, 7, "01020304");
+    l.to("case 11, back", &t, "01020304", 9, STRICT, 0, 4, "41E289A2CE912E");
+
+    // The errors a hurried fitter would build in.
+    l.to("a |1 line is not read", K, "817C", 9, FALL, 0, 2, "E28892");
+    let twice = k_line(6, "<icu:state> 2d, 30, 33, 3f, 81, 81:1");
+    l.k("the later of two overlapping entries wins", twice);
+    let twice = k_line(6, "<icu:state> 2d, 30, 33, 3f, 81:1, 81");
+    l.no("the later of two overlapping entries wins, other way", twice, 21, 12);
+    l.from("C0 AD is no minus", K, "C0AD", 9, SUBST, 52, 0, "");
+    l.from("ED A0 80 is illegal", K, "EDA080", 9, SUBST, 52, 0, "");
+    l.to("cut short is not unassigned", K, "3381", 9, SUBST, 51, 1, "33");
+}
+
+/// For every number: plain, dressed, and with higher numbers on the same line.
+fn numbers(l: &mut List) {
+    // 10
+    l.no("no form, header", k_insert(2, "garbage"), 10, 2);
+    l.no("no form, body", k_insert(9, "garbage"), 10, 9);
+    l.no("no form, end", k_insert(16, "garbage"), 10, 16);
+    l.no("no form, though the key is there again with a bad value",
+        k_insert(3, b"<mb_cur_min> 9 \xff"), 10, 3);
+    l.no("no form, though a byte breaks a row of 12, 14 and 15",
+        k_line(6, b"<icu:state> surrogates, zz, 7d-7c:80 \xff"), 10, 6);
+    l.no("no form, though the code point is too large", k_line(9, "<U110000> \\x2D |9"), 10, 9);
+    l.no("no form, though a plus is right", k_line(9, "<U41>+<U42> \\x2D |9"), 10, 9);
+    for bad in ["<U0041>", "<U0041> |0", "\\x41 |0", "<U0041> 41 |0", "<U0041> \\x4 |0",
+        "<U0041> \\x4g |0", "<U0041> \\x41 |", "<U0041> \\x41 |5", "<U0041> \\x41 |00",
+        "<U0041> \\x41 0", "<U0041> \\x41 |0 |0", "<U0041> |0 \\x41", "<U0041> \\x41 |0 x",
+        "<U0041 \\x41 |0", "U0041> \\x41 |0", "<0041> \\x41 |0", "<U0041> \\x41 |0 \"",
+        "\"", "<U0041> \\x41 \"#\" |0", "<U0041> \\x41 |0 <U0042>", "<U0041> \\x41\\",
+        "<U0041> \\x41\\x", "<U0041> \\x41 |-", "<U004G> \\x41 |0", "<U-41> \\x41 |0",
+        "<U+0041> \\x41 |0", "<U0041> x41 |0", "|0", "+", "<", "<U", "<U>", "\\", "\\x41"] {
+        l.no(&format!("no mapping form `{bad}`"), k_line(9, bad), 10, 9);
+    }
+
+    // 11
+    for (n, line) in k_lines().iter().take(5).enumerate() {
+        let name = format!("once-only key of line {} again", n + 1);
+        l.no(&name, k_insert(7, line), 11, 7);
+    }
+    let sub1 = k_insert(6, "<subchar1> \\x33");
+    let mut lines: Vec<Bytes> = sub1.split(|&b| b == b'\n').map(|x| x.to_vec()).collect();
+    lines.pop();
+    lines.insert(7, b"<subchar1> \\x33".to_vec());
+    l.no("subchar1 again", joined(&lines), 11, 8);
+    l.no("again, though its value is bad", k_insert(8, "<mb_cur_max> x"), 11, 8);
+    l.no("again, though its class is not built", k_insert(8, "<uconv_class> \"DBCS\""), 11, 8);
+    l.no("again, though empty", k_insert(2, "<code_set_name>"), 11, 2);
+
+    // 12
+    for bad in ["<code_set_name>", "<code_set_name> \"\"", "<code_set_name> k",
+        "<code_set_name> 'k'", "<code_set_name> \"k\" x", "<code_set_name> \"k\" \"l\"",
+        "<code_set_name> \"k\"\"l\"", "<code_set_name> x \"k\"", "<code_set_name> k\"k\""] {
+        l.no(&format!("value of `{bad}`"), k_line(1, bad), 12, 1);
+    }
+    for bad in ["", "0", "5", "9", "01", "12", "1 1", "-1", "+1", "\"1\"", "a", "1.", "one", "\\x01",
+        "1,", "1 x", "11"] {
+        l.no(&format!("mb_cur_min `{bad}`"), k_line(2, format!("<mb_cur_min> {bad}")), 12, 2);
+        l.no(&format!("mb_cur_max `{bad}`"), k_line(3, format!("<mb_cur_max> {bad}")), 12, 3);
+    }
+    for bad in ["", "MBCS", "\"\"", "\"mbcs\"", "\"MBCS \"", "\" MBCS\"", "\"MBCS\" x", "\"M BCS\"",
+        "\"UTF-8\"", "\"SBCSX\"", "\"SBC\"", "DBCS", "\"dbcs\"", "\"EBCDIC\"", "\"ISO_2022\"",
+        "\"MBCS\"\"MBCS\"", "'MBCS'", "\"EBCDIC_STATEFUL \"", "\"DBCS\" \"DBCS\""] {
+        l.no(&format!("class `{bad}`"), k_line(4, format!("<uconv_class> {bad}")), 12, 4);
+    }
+    for bad in ["", "3F", "\\x3", "\\x", "\\x3G", "\\X3F", "\\x3F\\x3F\\x3F\\x3F\\x3F", "\"\\x3F\"",
+        "\\x3F |0", "\\x3F+\\x3F", "\\x3F,\\x3F", "\\x3F x", "\\ x3F", "\\x 3F", "\\x3 F",
+        "\\x3F\\", "x3F", "0x3F", "<U003F>"] {
+        l.no(&format!("subchar `{bad}`"), k_line(5, format!("<subchar> {bad}")), 12, 5);
+    }
+    for bad in ["", "3F", "\\x3F\\x3F", "\\x3F \\x3F", "\\x3", "\"\\x3F\"", "none", "\\x3F+"] {
+        l.no(&format!("subchar1 `{bad}`"), k_insert(6, format!("<subchar1> {bad}")), 12, 6);
+    }
+    for bad in [",", "30,", ",30", "30,,31", "30 31", "30-", "-30", "30-31-32", "30:", ":1",
+        "30::1", "30:1:1", "30..", "30.x", "30.uu", "30.u.u", "30.u:0", "30.1", "30.e", "130",
+        "30-131", "30:100", "30:001", "g", "0x30", "30;31", "\\x30", "30.up", "30.u p", "3 0",
+        "30 -", "30.u 31", "30:1 1", "30 u", "30u", "30p", "|0", "30-31:", "30:-1", "30|0",
+        "i", "u", ".", ".u", ":", "-", "30.initial", "30, initial"] {
+        l.no(&format!("row `{bad}`"), k_line(6, format!("<icu:state> {bad}")), 12, 6);
+        l.no(&format!("second row `{bad}`"), k_line(7, format!("<icu:state> {bad}")), 12, 7);
+    }
+    l.no("12 before 14 and 15", k_line(6, "<icu:state> surrogates, 30.s, 7d-7c, 40:80, zz"), 12, 6);
+    l.no("12 though the class is named", k_line(4, "<uconv_class> \"DBCS\" \"x\""), 12, 4);
+
+    // 13
+    for n in 1..=5 {
+        l.no(&format!("line {n} absent"), k_delete(n), 13, 7);
+    }
+    let mut lines = k_lines();
+    lines.drain(5..7);
+    l.no("no row", joined(&lines), 13, 6);
+    l.no("only CHARMAP", "CHARMAP\n", 13, 1);
+    l.no("CHARMAP after ignored keys", "<a> b\n<U0041> \\x41 |4\nCHARMAP\nEND CHARMAP\n", 13, 3);
+    let mut lines = k_lines();
+    lines[1] = b"<mb_cur_min> 3".to_vec();
+    lines[5] = b"<icu:state> 0-ff:0".to_vec();
+    lines.remove(4);
+    l.no("subchar absent, though min, max and T2 are broken", joined(&lines), 13, 7);
+
+    // 14
+    l.no("DBCS", k_line(4, "<uconv_class> \"DBCS\""), 14, 4);
+    l.no("EBCDIC_STATEFUL", k_line(4, "<uconv_class> \"EBCDIC_STATEFUL\""), 14, 4);
+    l.no("icu:base", k_insert(1, "<icu:base> \"x\""), 14, 1);
+    l.no("surrogates on row 0", k_line(6, "<icu:state> surrogates, 30"), 14, 6);
+    l.no("surrogates on row 1", k_line(7, "<icu:state> surrogates, 30"), 14, 7);
+    l.no("initial on row 1", k_line(7, "<icu:state> initial, 7c-7d, 80.u"), 14, 7);
+    l.no("letter s", k_line(6, "<icu:state> 2d.s"), 14, 6);
+    l.no("letter s with next row 0", k_line(6, "<icu:state> 2d:0.s"), 14, 6);
+    l.no("letter s with next row 1", k_line(6, "<icu:state> 2d:1.s"), 14, 6);
+    for end in [".", ".u", ".p", ".i", ".s"] {
+        let row = format!("<icu:state> 2d:1{end}");
+        l.no(&format!("an end to row 1 `{end}`"), k_line(6, row), 14, 6);
+    }
+    l.no("second CHARMAP", k_insert(9, "CHARMAP"), 14, 9);
+    l.no("second CHARMAP before the end", k_insert(15, "CHARMAP"), 14, 15);
+    l.no("CHARMAP after the end", k_insert(16, "CHARMAP"), 14, 16);
+    l.no("a second part", k_insert(16, "CHARMAP\nEND CHARMAP"), 14, 16);
+    l.no("indicator 4", k_line(9, "<U002D> \\x2D |4"), 14, 9);
+    l.no("two code points", k_line(9, "<U002D><U0041> \\x2D |0"), 14, 9);
+    l.no("two code points, blank", k_line(9, "<U002D> <U0041> \\x2D"), 14, 9);
+    l.no("plus between code points", k_line(9, "<U002D>+<U0041> \\x2D |0"), 14, 9);
+    l.no("plus between bytes", k_line(9, "<U002D> \\x81+\\x7C |0"), 14, 9);
+    l.no("004's own example",
+        k_line(9, "<U101234>+<U50005>+<U60006> \\x07+\\x00+\\x01\\x02\\x0f+\\x09 |0"), 14, 9);
+    l.no("14, though the range falls and the row is far",
+        k_line(6, "<icu:state> 7d-7c.s, 40:80"), 14, 6);
+    l.no("14, though 15 stands before it", k_line(6, "<icu:state> 7d-7c, 30.s"), 14, 6);
+    l.no("14, though T5 to T9 are broken", k_line(10, "<UD800> \\x99\\x99 |4"), 14, 10);
+    l.no("14, though it repeats a line", k_line(10, "<U002D> \\x2D |4"), 14, 10);
+
+    // 15
+    l.no("falling range", k_line(6, "<icu:state> 7d-7c"), 15, 6);
+    l.no("falling range that leads on", k_line(6, "<icu:state> 7d-7c:1"), 15, 6);
+    l.no("next row 80", k_line(6, "<icu:state> 40:80"), 15, 6);
+    l.no("next row ff", k_line(6, "<icu:state> 40:ff"), 15, 6);
+    l.no("next row 80, overwritten", k_line(6, "<icu:state> 40:80, 0-ff"), 15, 6);
+    l.no("falling range, overwritten", k_line(6, "<icu:state> 7d-7c, 0-ff"), 15, 6);
+    let sixteen = vec!["30"; 16];
+    let seventeen = vec!["30"; 17];
+    l.yes("16 rows", mbcs(1, "\\x30", &sixteen, &[]), [16, 0, 1, 1, 0x3000_0000, 1, 0]);
+    l.no("17th row", mbcs(1, "\\x30", &seventeen, &[]), 15, 22);
+    l.no("17th row, empty", mbcs(1, "\\x30", &[&sixteen[..], &[""]].concat(), &[]), 15, 22);
+    l.no("17th row, though required keys never come",
+        "<icu:state>\n".repeat(17), 15, 17);
+
+    // 16
+    l.no("min above max", k_line(2, "<mb_cur_min> 3"), 16, 8);
+    l.no("T2: row 2 of 2", k_line(6, "<icu:state> 2d, 30, 33, 3f, 81:2"), 16, 8);
+    l.no("T2: row 7f", k_line(6, "<icu:state> 2d, 30, 33, 3f, 81:1, 82:7f"), 16, 8);
+    l.no("T2: row 0", k_line(6, "<icu:state> 2d, 30, 33, 3f, 81:1, 82:0"), 16, 8);
+    l.no("T3: circle", k_line(7, "<icu:state> 7c-7d, 80:1"), 16, 8);
+    l.no("T3: an empty target row counts", mbcs(1, "\\x30", &["30, 81:1", ""], &[]), 16, 8);
+    l.yes("T3: with max 2 it may stand", mbcs(2, "\\x30", &["30, 81:1", ""], &[]),
+        [2, 0, 1, 2, 0x3000_0000, 1, 0]);
+    for bad in ["\\x34", "\\x81", "\\x81\\x81", "\\x3F\\x3F", "\\x81\\x7C\\x3F", "\\x00"] {
+        l.no(&format!("T4: subchar {bad}"), k_line(5, format!("<subchar> {bad}")), 16, 8);
+    }
+    l.no("T4: subchar1 81", k_insert(6, "<subchar1> \\x81"), 16, 9);
+    l.no("T4: subchar1 34", k_insert(6, "<subchar1> \\x34"), 16, 9);
+    l.no("T4: subchar of an illegal end", k_line(6, "<icu:state> 2d, 30, 33, 3f, 81:1, 3f.i"), 16, 8);
+
+    // 20
+    for bad in ["D800", "DBFF", "DC00", "DFFF", "110000", "FFFFFF", "00D800", "200000"] {
+        l.no(&format!("T6: U+{bad}"), k_line(9, format!("<U{bad}> \\x2D |0")), 20, 9);
+        l.no(&format!("T6: U+{bad}, |2"), k_line(9, format!("<U{bad}> \\x2D |2")), 20, 9);
+        l.no(&format!("T6: U+{bad}, though T5, T7 and T9 too"),
+            k_line(10, format!("<U{bad}> \\x00\\x2D |0")), 20, 10);
+    }
+
+    let bounds = ["<UD7FF> \\x01 |0", "<UE000> \\x02 |1", "<UFFFF> \\x03 |3", "<U0000> \\x04 |0", "<UE000> \\x05 |3"];
+    l.yes("T6: the bounds", sbcs("<subchar> \\x3F", &bounds), [1, 5, 1, 1, 0x3f00_0000, 1, 0]);
+
+    // 21
+    for (bad, why) in [("\\x99", "illegal"), ("\\x81", "cut short"), ("\\x2D\\x2D", "goes on"),
+        ("\\x81\\x80", "ended by u"), ("\\x81\\x81", "illegal second byte"),
+        ("\\x81\\x7C\\x7C", "too long"), ("\\x2D\\x2D\\x2D\\x2D\\x2D", "five bytes")] {
+        for kind in ["", " |0", " |1", " |3"] {
+            let line = format!("<U0041> {bad}{kind}");
+            l.no(&format!("T5: {why}{kind}"), k_line(9, line), 21, 9);
+        }
+    }
+    l.no("T5: above U+FFFF without p", k_line(9, "<U10000> \\x2D |0"), 21, 9);
+    l.no("T5: above U+FFFF without p, |3", k_line(9, "<U10FFFF> \\x2D |3"), 21, 9);
+    l.no("T5: shorter than mb_cur_min", k_line(2, "<mb_cur_min> 2"), 21, 9);
+    l.no("T5: two bytes where min is 3",
+        k_change(&[(2, "<mb_cur_min> 3"), (3, "<mb_cur_max> 4"), (9, "<U0041> \\x81\\x7C |1")]), 21, 9);
+    l.no("T5, though T7 and T9 too", k_line(10, "<U002D> \\x00\\x2D |0"), 21, 10);
+
+    // 22
+    let rows = ["0:1, 30", "0-ff"];
+    let lines = ["<U0030> \\x30 |0", "<U0041> \\x00\\x41 |3", "<U0042> \\x00\\x42 |0"];
+    l.no("T7: |0", mbcs(2, "\\x30", &rows, &lines), 22, 11);
+    let lines = ["<U0030> \\x30 |0", "<U0041> \\x00\\x41 |3", "<U0042> \\x00\\x42 |1"];
+    l.no("T7: |1", mbcs(2, "\\x30", &rows, &lines), 22, 11);
+    let lines = ["<U0030> \\x30 |0", "<U0041> \\x00\\x41 |3", "<U0030> \\x00\\x41 |0"];
+    l.no("T7, though T9 twice too", mbcs(2, "\\x30", &rows, &lines), 22, 11);
+    let lines = ["<U0030> \\x30 |0", "<U0041> \\x00\\x41 |3", "<U0042> \\x00\\x00 |3"];
+    l.yes("T7: |3 may", mbcs(2, "\\x30", &rows, &lines), [2, 3, 1, 2, 0x3000_0000, 1, 0]);
+
+    // 23
+    l.no("T8: no subchar1", k_line(9, "<U0041> \\x2D |2"), 23, 9);
+    l.no("T8: no subchar1, 00", k_line(9, "<U0041> \\x00 |2"), 23, 9);
+    l.no("T8: no subchar1, 00 legal", sbcs("<subchar> \\x00", &["<U0041> \\x00 |2"]), 23, 7);
+    for bad in ["\\x30", "\\x2D\\x2D", "\\x81\\x7C", "\\x99", "\\x2D\\x2D\\x2D\\x2D\\x2D", "\\x00"] {
+        let mut lines = k_lines();
+        lines.insert(5, b"<subchar1> \\x2D".to_vec());
+        lines.insert(12, format!("<U0041> {bad} |2").into_bytes());
+        l.no(&format!("T8: {bad}"), joined(&lines), 23, 13);
+        lines[12] = format!("<U0030> {bad} |2").into_bytes();
+        l.no(&format!("T8: {bad}, though T9 too"), joined(&lines), 23, 13);
+    }
+
+    // 24
+    l.no("T9 bytes: |0 and |0", k_line(10, "<U0041> \\x2D |0"), 24, 10);
+    l.no("T9 bytes: |0 and |3", k_line(10, "<U0041> \\x2D |3"), 24, 10);
+    l.no("T9 bytes: |3 and |0", k_insert(15, "<U0041> \\x81\\x7D"), 24, 15);
+    l.no("T9 bytes: |3 and |3", k_insert(15, "<U0041> \\x81\\x7D |3"), 24, 15);
+    l.no("T9 bytes, though code points too", k_line(10, "<U002D> \\x2D |0"), 24, 10);
+
+    // 25
+    l.no("T9 code points: |0 and |0", k_line(10, "<U002D> \\x30 |0"), 25, 10);
+    l.no("T9 code points: |0 and |1", k_line(10, "<U002D> \\x30 |1"), 25, 10);
+    l.no("T9 code points: |1 and |0", k_insert(14, "<UFF0D> \\x3F |0"), 25, 14);
+    l.no("T9 code points: |1 and |1", k_insert(14, "<UFF0D> \\x3F |1"), 25, 14);
+    let mut full = many(2048);
+    full.truncate(full.len() - "END CHARMAP\n".len());
+    let more = |line: &str| [&full[..], line.as_bytes(), b"\nEND CHARMAP\n"].concat();
+    l.no("T9 code points, though the 2,049th too", more("<U0100> \\x09\\x00 |0"), 25, 8 + 2049);
+
+    // 26
+    l.no("2,049th, |3", more("<U0100> \\x09\\x00 |3"), 26, 8 + 2049);
+    l.no("2,049th, |1", more("<U0041> \\x01\\x00 |1"), 26, 8 + 2049);
+    l.no("2,049th of no form", more("<U0041> \\x01\\x00 |9"), 10, 8 + 2049);
+    l.no("2,049th with |4", more("<U0041> \\x01\\x00 |4"), 14, 8 + 2049);
+    l.no("2,049th a surrogate", more("<UD800> \\x01\\x00 |1"), 20, 8 + 2049);
+    l.no("2,049th breaks T5", more("<U0041> \\x01 |1"), 21, 8 + 2049);
+    l.no("2,049th breaks T7", more("<U0041> \\x00\\x01 |1"), 22, 8 + 2049);
+    l.no("2,049th breaks T8", more("<U0041> \\x01 |2"), 23, 8 + 2049);
+    l.no("2,049th breaks T9 by bytes", more("<U0041> \\x01\\x00 |0"), 24, 8 + 2049);
+    let t = [&full[..], b"# no more\n\nEND CHARMAP\n# <U0041> \\x09\\x00\n"].concat();
+    l.yes("comments are no 2,049th", t, [2, 2048, 1, 2, 0x0101_0000, 2, 0]);
+
+    // 27
+    l.no("no END", k_delete(15), 27, 15);
+    l.no("only a header", "<code_set_name> \"x\"\n", 27, 2);
+    l.no("nearly END", k_line(15, "# END CHARMAP"), 27, 16);
+    let open = k_delete(15);
+    l.no1("no END, no last LF", &open[..open.len() - 1], 27, 15);
+}
+
+/// Readings R1 to R20.
+fn text_readings(l: &mut List) {
+    // R1
+    l.k1("R1: open class", k_line(4, "<uconv_class> \"MBCS"));
+    l.k1("R1: open class (CR LF)", with_cr_lf(&k_line(4, "<uconv_class> \"MBCS")));
+    l.no1("R1: open class with a blank", k_line(4, "<uconv_class> \"MBCS "), 12, 4);
+    l.no1("R1: open class with a comment inside", k_line(4, "<uconv_class> \"MBCS#"), 12, 4);
+    l.no1("R1: open class, not built", k_line(4, "<uconv_class> \"DBCS"), 14, 4);
+    l.no1("R1: open and empty name", k_line(1, "<code_set_name> \""), 12, 1);
+    l.k1("R1: open name", k_line(1, "<code_set_name> \"a # b"));
+    l.k1("R1: open name of one blank", k_line(1, "<code_set_name> \" "));
+    l.k("R1: name with #", k_line(1, "<code_set_name> \"#\""));
+    l.k("R1: name of a blank", k_line(1, "<code_set_name> \" \""));
+    l.k("R1: comment right behind", k_line(1, "<code_set_name> \"a\"#\""));
+    l.k1("R1: an open quote ends with its line", k_line(1, "<code_set_name> \"kettle-1"));
+    l.k1("R1: open quote of an ignored key", k_insert(1, "<a> x \"y # z"));
+    l.no1("R1: `\"a\" #\"` and a bad byte behind `#` in an open quote is inside",
+        k_line(1, b"<code_set_name> \"a\" \"# \xff"), 12, 1);
+
+    // R2
+    l.k1("R2: 80 up and CR in a name", k_line(1, b"<code_set_name> \"\x80\xff\r.\""));
+    l.k1("R2: in an open name", k_line(1, b"<code_set_name> \"\xff\r."));
+    l.k("R2: in quotes behind an ignored key", k_insert(1, b"<a> x \"\xff\r\" y \"\x80\""));
+    l.k1("R2: in open quotes behind an ignored key", k_insert(1, b"<a> x \"\" y \"\x80\r\xff"));
+    l.no("R2: between quotes", k_insert(1, b"<a> \"x\" \xff \"y\""), 10, 1);
+    l.no("R2: CR between quotes", k_insert(1, b"<a> \"x\" \r \"y\""), 10, 1);
+    l.no("R2: in quotes of a digit", k_line(3, b"<mb_cur_max> \"\xff\""), 12, 3);
+    l.no("R2: in quotes behind a digit", k_line(3, b"<mb_cur_max> 2 \"\xff\""), 12, 3);
+    l.no("R2: in quotes of a row", k_line(6, b"<icu:state> \"\xff\""), 12, 6);
+    l.no("R2: in quotes of icu:base", k_insert(1, b"<icu:base> \"\xff\""), 14, 1);
+    l.no("R2: in quotes of a class", k_line(4, b"<uconv_class> \"MBCS\xff\""), 12, 4);
+
+    // R3
+    l.k("R3: a quote in a key opens nothing", k_insert(1, b"<a\"b> x # \xff\r."));
+    l.no("R3: so this byte is outside", k_insert(1, b"<a\"b> \xff"), 10, 1);
+    l.no("R3: and this one", k_insert(1, b"<a\"b> \" \" \xff"), 10, 1);
+    l.k("R3: the quote behind it does", k_insert(1, b"<a\"b> \"# \xff\""));
+    l.k("R3: a key of a quote", k_insert(1, b"<\"> x"));
+    l.no("R3: a comment inside a key", k_insert(1, "<a#b> x"), 10, 1);
+
+    // R4
+    for line in [&b"<a> \xff"[..], b"<a> x\x80", b"<a>\xc3\xa4", b"<a> \r x", b"\xff", b"\r x",
+        b"<mb_cur_max> 2\xff", b"<mb_cur_max>\xff", b"<mb_cur_max> \r2", b"<code_set_name> \"a\" \xff",
+        b"<icu:base> \xff", b"<icu:base> x\r x", b"<\xff> x", b"<a\r> x", b"\xff <a> x", b"<icu:state> 30 \xff",
+        b"<uconv_class> \"MBCS\xff\" \xff", b"CHARMAP \xff", b"CHARMAP \r x", b"\x80CHARMAP"] {
+        let name = format!("R4: {}", line.escape_ascii());
+        l.no(&name, k_insert(1, line), 10, 1);
+    }
+    for line in [&b"<U0041> \\x3F |0 \xff"[..], b"\xff<U0041> \\x3F", b"<U0041>\r\\x3F", b"\x80", b"\r x",
+        b"<U0041\xff> \\x3F", b"<U0041> \\x3F\xff", b"END CHARMAP \xff", b"END \r CHARMAP"] {
+        let name = format!("R4, body: {}", line.escape_ascii());
+        l.no(&name, k_insert(9, line), 10, 9);
+        l.no(&name.replace("body", "end"), k_insert(16, line), 10, 16);
+    }
+    l.no1("R4: byte order mark", [b"\xef\xbb\xbf", K.as_bytes()].concat(), 10, 1);
+    l.k1("R4: byte order mark in a comment", [b"#\xef\xbb\xbf\n", K.as_bytes()].concat());
+    for n in [1, 2, 3, 5, 6, 7, 8, 9, 13, 15] {
+        let line = [k_lines()[n - 1].as_slice(), b"#\xff\r\x80"].concat();
+        l.k(&format!("R4: in the comment of line {n}"), k_line(n, line));
+    }
+
+    // R5
+    for bad in [&b"<>"[..], b"<> x", b"<f\x7f>", b"<f", b"<f g>", b"< f>", b"<f >", b"<f\tg>", b"<f<g>",
+        b"<<f>", b"f>", b">", b"<", b"f", b"<f\x00>", b"<f\x1f>", b"x <f> y", b"\"<f>\"", b"<f#> x"] {
+        l.no(&format!("R5: {}", bad.escape_ascii()), k_insert(3, bad), 10, 3);
+    }
+    for good in ["<!>", "<~> x", "<f>>", "<f><", "<f><g> x", "<f>g", "<f:g> <code_set_name> \"x\"",
+        "<CHARMAP>", "<U0041>", "<U0041> \\x41 |4", "<U0041>+<U0042> x", "<UD800> \\x99 |0",
+        "<mb_cur_mi> 9", "<mb_cur_min_> 9", "<subchar2> x", "<subchar11> x", "<icu:states> zz", "<icu:stat> zz",
+        "<icu:basE> x", "<code_set_name_> x", "<charset> x", "<char_name_mask> \"AXXXX\"",
+        "<icu:charsetFamily> \"ASCII\"", "<uconv_clas> \"DBCS\"", "<'> '", "<\\x41> \\", "<END> CHARMAP"] {
+        l.k(&format!("R5: ignored {good}"), k_insert(3, good));
+        l.no(&format!("R8: not after the end {good}"), k_insert(16, good), 10, 16);
+    }
+
+    // R6
+    l.no1("R6: CR at the very end", [K.trim_end(), "\r"].concat(), 10, 15);
+    l.no1("R6: only a CR", "\r", 10, 1);
+    l.no1("R6: LF CR", "\n\r", 10, 2);
+    l.no1("R6: CR LF CR", "\r\n\r", 10, 2);
+    l.no1("R6: CR CR LF", [K, "\r\r\n"].concat(), 10, 16);
+    l.no1("R6: CR CR LF behind a value", k_line(2, "<mb_cur_min> 1\r\r"), 10, 2);
+    l.k1("R6: CR CR LF in a comment", k_line(2, "<mb_cur_min> 1 #\r\r"));
+    l.k1("R6: CR CR LF in an open name", k_line(1, "<code_set_name> \"x\r\r"));
+    l.no1("R6: CR CR LF in an open class", k_line(4, "<uconv_class> \"MBCS\r\r"), 12, 4);
+    l.no1("R6: an open class at the very end", "<uconv_class> \"MBCS\r", 12, 1);
+    l.no1("R6: an open name at the very end", "<code_set_name> \"x\r", 27, 2);
+    l.k1("R6: a CR in a comment at the very end", [K, "#\r"].concat());
+    l.k1("R6: CR LF at the end", [K, "\r\n"].concat());
+
+    // R7
+    l.no1("R7: #", "#", 27, 2);
+    l.no1("R7: # LF", "#\n", 27, 2);
+    l.no1("R7: # CR LF", "#\r\n", 27, 2);
+    l.no1("R7: LF", "\n", 27, 2);
+    l.no1("R7: CR LF", "\r\n", 27, 2);
+    l.no1("R7: LF LF", "\n\n", 27, 3);
+    l.no1("R7: LF LF blank", "\n\n ", 27, 4);
+    l.no1("R7: blank", " ", 27, 2);
+    l.k1("R7: the last line lacks an end", K.trim_end());
+    l.k1("R7: the last line lacks an end, a comment", [K, "# x"].concat());
+
+    // R8
+    l.no("R8: END before CHARMAP", k_insert(8, "END CHARMAP"), 10, 8);
+    l.no("R8: END first", "END CHARMAP\n", 10, 1);
+    for line in ["<a> x", "<icu:base> \"x\"", "<icu:base>", "<code_set_name> \"x\"", "<icu:state> 30",
+        "<subchar1> \\x2D", "<mb_cur_min> 1", "<U0041> x"] {
+        l.no(&format!("R8: after CHARMAP {line}"), k_insert(9, line), 10, 9);
+    }
+    for line in ["END CHARMAP", "<U0041> \\x3F |0", "<U0041> \\x3F |4", "<U0041>+<U0042> \\x3F |0",
+        "<icu:base> \"x\"", "<code_set_name> \"x\"", "x", "CHARMAP x", "charmap", "\"", "<UD800> \\x99"] {
+        l.no(&format!("R8: after the end {line}"), k_insert(16, line), 10, 16);
+    }
+    l.k("R8: blank and comment after the end", [K, "\n  \n# x\n\t# CHARMAP\n"].concat());
+
+    // R9
+    for good in [" CHARMAP", "CHARMAP ", "\tCHARMAP\t", "CHARMAP#x", "CHARMAP # \"", "\t \tCHARMAP \t# x"] {
+        l.k(&format!("R9: `{good}`"), k_line(8, good));
+    }
+    for good in ["END  CHARMAP", "END\tCHARMAP", " END \t CHARMAP ", "END CHARMAP#x", "END CHARMAP # END"] {
+        l.k(&format!("R9: `{good}`"), k_line(15, good));
+    }
+    for bad in ["CHARMAP x", "charmap", "Charmap", "CHARMAPS", "CHAR MAP", "CHARMAP CHARMAP", "CHARMAP \"\"",
+        "CHARMAP:", "\"CHARMAP\"", "CHARMAP.", "CHARMAP 1", "<CHARMAP", "CHARMAP>", "CHARMA",
+        "#CHARMAP\nCHARMAP x"] {
+        let line = if bad.starts_with('#') { 9 } else { 8 };
+        l.no(&format!("R9: `{bad}`"), k_line(8, bad), 10, line);
+        let line = if bad.starts_with('#') { 10 } else { 9 };
+        l.no(&format!("R9, body: `{bad}`"), k_insert(9, bad), 10, line);
+    }
+    for bad in ["ENDCHARMAP", "END", "END CHARMAP x", "end charmap", "END charmap", "END CHARMAPS",
+        "END-CHARMAP", "END, CHARMAP", "END END CHARMAP", "CHARMAP END", "END #CHARMAP", "END \"CHARMAP\"",
+        "END CHAR MAP", "EN D CHARMAP"] {
+        l.no(&format!("R9: `{bad}`"), k_line(15, bad), 10, 15);
+    }
+
+    // R10
+    for bad in ["<U>", "<U0000030>", "<U 0030>", "<U0030 >", "<U00G0>", "<U-030>", "<U00.30>", "<U0030>>",
+        "<U\\x30>"] {
+        l.no(&format!("R10: {bad}"), k_line(10, format!("{bad} \\x30 |0")), 10, 10);
+    }
+    for good in ["<U30>", "<U030>", "<U0030>", "<U00030>", "<U000030>"] {
+        l.k(&format!("R10: {good}"), k_line(10, format!("{good} \\x30 |0")));
+    }
+
+    // R11
+    let long = "\\x30".repeat(300);
+    l.no("R11: 300 bytes", k_line(9, format!("<U0041> {long} |0")), 21, 9);
+    l.no("R11: 300 bytes, |2", k_line(9, format!("<U0041> {long} |2")), 23, 9);
+    l.no("R11: five bytes, no indicator", k_line(9, "<U0041> \\x30\\x30 \\x30\\x30\\x30"), 21, 9);
+
+    // R12
+    for good in ["<U41>+<U42> \\x30 |0", "<U41> + <U42> \\x30 |0", "<U41>+<U42>\\x30", "<U41>+<U42>+<U43> \\x30 |1",
+        "<U41> \\x81+\\x7C |0", "<U41> \\x81 + \\x7C", "<U41><U42> \\x30 |4",
+        "<U41> <U42>+<U43>\t\\x30\\x31+\\x32|2",
+        "<UFFFFFF>+<UD800> \\x99 |0", "<U41> \\x81+\\x7C |4", "<U41>\t+\t<U42> \\x30"] {
+        l.no(&format!("R12: {good}"), k_line(9, good), 14, 9);
+    }
+    for bad in ["+<U41> \\x30 |0", "<U41>++<U42> \\x30 |0", "<U41>+ + <U42> \\x30 |0", "<U41>+ \\x30 |0",
+        "<U41>+\\x30 |0", "<U41> +\\x30", "<U41> \\x30+ |0", "<U41> \\x30+", "<U41> \\x30 |0+",
+        "<U41> \\x30 |0 + \\x31",
+        "<U41> \\x30++\\x31 |0", "<U41> \\x30 + + \\x31 |0", "<U41>+<U42> |0", "<U41>+<U42>", "<U41>+<U> \\x30 |0",
+        "<U41>+<U0000042> \\x30 |0", "<U41>-<U42> \\x30 |0", "<U41>,<U42> \\x30 |0", "<U41>+<U42> \\x30 |5",
+        "<U41> \\x30+<U42> |0", "<U41><U42> \\x30 |4 x", "<U41>+<U42> \\x30 | 0", "<U41>+<u42> \\x30"] {
+        l.no(&format!("R12: {bad}"), k_line(9, bad), 10, 9);
+    }
+
+    // R13
+    l.k("R13: with and without indicator", k_change(&[(9, "<U002D> \\x2D"), (12, "<U2212> \\x81\\x7C")]));
+
+    // R14
+    for bad in ["<U002D> \\x2D | 0", "<U 002D> \\x2D |0", "<U002D> \\x 2D |0", "<U002D> \\x2 D |0",
+        "< U002D> \\x2D |0",
+        "<U002D> \\ x2D |0", "<U002D> \\x2D |\t0", "<U00 2D> \\x2D"] {
+        l.no(&format!("R14: {bad}"), k_line(9, bad), 10, 9);
+    }
+    for bad in ["2 d", "ini tial, 30", "30.u u", "8 1:1"] {
+        l.no(&format!("R14: row {bad}"), k_line(6, format!("<icu:state> {bad}")), 12, 6);
+    }
+    for good in ["2d,30,33,3f,81:1", "2d , 30 , 33 , 3f , 81 : 1", "\t2d\t,30\t,\t33,3f,\t81\t:\t1\t",
+        "2d., 30 ., 33:0., 3f : 0 . , 81:1", "initial,2d,30,33,3f,81:1", "initial , 2d , 30,33,3f,81:01",
+        "2D,30,33,3F,81:1", "2d-2d, 30 - 30, 33, 3f, 81 - 81 : 1"] {
+        l.k(&format!("R14: row `{good}`"), k_line(6, format!("<icu:state>{good}")));
+    }
+    for good in ["7c-7d,80.u", "7c - 7d , 80 . u", "7c-7d, 80:0.u", "7C-7D, 80 : 0 . u", "7c, 7d, 80.u",
+        "7c-80, 7e-80.u, 7e-7f.i",
+        "0-ff.u, 0-7b.i, 7c-7d, 7e-7f.i, 81-ff.i", "7c-7d,80.u,0.i,1 . i,2:0.i,3:00.i"] {
+        l.k(&format!("R14: row `{good}`"), k_line(7, format!("<icu:state>\t{good}")));
+    }
+    l.k("R14: <mb_cur_max>2", k_line(3, "<mb_cur_max>2"));
+    l.k("R14: <uconv_class>\"MBCS\"", k_line(4, "<uconv_class>\"MBCS\""));
+    l.k("R14: <code_set_name>\"x\"", k_line(1, "<code_set_name>\"x\""));
+    l.k("R14: <subchar>\\x3F", k_line(5, "<subchar>\\x3F"));
+    l.k("R14: <U2d>\\x2D|0", k_line(9, "<U2d>\\x2D|0"));
+    l.k("R14: blanks between the bytes", k_line(12, "<U2212> \\x81 \t \\x7C \t |0"));
+    let record = [2, 6, 1, 2, 0x817c_0000, 2, 0];
+    l.yes("R14: blanks in subchar", k_line(5, "<subchar> \\x81 \t \\x7C"), record);
+
+    // R15
+    for bad in ["initial", "initial,", "initial 30", "initial, initial, 30", "initial, surrogates, 30",
+        "surrogates, initial, 30", "surrogates", "surrogates,", "surrogates 30", "surrogates, surrogates, 30",
+        "30, initial", "initial, ,30", "initial: 30", "initials, 30", "initial30", ", initial, 30",
+        "initial, 30,"] {
+        l.no(&format!("R15: {bad}"), k_line(6, format!("<icu:state> {bad}")), 12, 6);
+        l.no(&format!("R15: row 1 {bad}"), k_line(7, format!("<icu:state> {bad}")), 12, 7);
+    }
+
+    // R16
+    for (n, bad) in [(2, "<mb_cur_min> \"1\""), (5, "<subchar> \"\\x3F\""), (6, "<icu:state> \"2d\""),
+        (7, "<icu:state> \"\""), (4, "<uconv_class> MBCS"), (1, "<code_set_name> kettle-1")] {
+        l.no(&format!("R16: {bad}"), k_line(n, bad), 12, n as u64);
+    }
+
+    // R17
+    for line in ["<icu:base>", "<icu:base> x", "<icu:base> \"\"", "<icu:base>\"x\" y", "<icu:base> 1 2 3",
+        "<icu:base> \x01"] {
+        l.no(&format!("R17: {}", line.escape_debug()), k_insert(4, line), 14, 4);
+    }
+    l.no1("R17: open quote", k_insert(4, b"<icu:base> \"\xff # x"), 14, 4);
+
+    // R18
+    for (row, number) in [("40:80.", 14), ("40:80.u", 14), ("40:1.i", 14), ("40:ff.i", 14), ("40:80", 15),
+        ("40:100", 12),
+        ("7d-7c.s", 14), ("7d-7c:1.", 14), ("40.s, zz", 12), ("7d-7c, zz", 12), ("40.s, 40", 14), ("40:1., 40", 14),
+        ("7d-7c, 40:80", 15), ("40:80, 30.s", 14), ("surrogates, 7d-7c", 14), ("40:80.s, 40:100", 12), ("ff-0",
+        15), ("1-0.i", 15)] {
+        l.no(&format!("R18: {row}"), k_line(6, format!("<icu:state> {row}")), number, 6);
+    }
+    for (row, number) in [("zz", 12), ("30.s", 14), ("initial, 30", 14), ("surrogates, 30", 14), ("7d-7c", 15),
+        ("30", 15), ("30,", 12), ("30:1.", 14), ("30:5", 15)] {
+        let mut rows = vec!["30"; 16];
+        rows.push(row);
+        l.no(&format!("R18: 17th row {row}"), mbcs(1, "\\x30", &rows, &[]), number, 22);
+    }
+    l.k("R18: a far row overwritten is not led to", k_line(6, "<icu:state> 2d, 30:7f, 30:0, 30, 33, 3f, 81:1"));
+
+    // R19
+    for bad in ["30.U", "30.P", "30.I", "30.S", "Initial, 30", "INITIAL, 30", "Surrogates, 30"] {
+        l.no(&format!("R19: {bad}"), k_line(6, format!("<icu:state> {bad}")), 12, 6);
+    }
+    l.no("R19: \\X41 in a mapping", k_line(9, "<U002D> \\X2D |0"), 10, 9);
+    l.no("R19: <u2d> in a mapping", k_line(9, "<u002D> \\x2D |0"), 10, 9);
+    l.no("R19: <MB_CUR_MAX>", k_line(3, "<MB_CUR_MAX> 2"), 13, 8);
+    l.k("R19: <MB_CUR_MAX> ignored", k_insert(3, "<MB_CUR_MAX> 9"));
+    l.k("R19: <ICU:BASE> ignored", k_insert(3, "<ICU:BASE> 9"));
+    l.k("R19: digits in either case",
+        k_change(&[(5, "<subchar> \\x3f"), (9, "<U2d> \\x2d |0"), (12, "<U2212> \\x81\\x7c |0"), (13,
+            "<UfF0d> \\x81\\x7C |1")]));
+
+    // R20
+    let controls: Vec<u8> = (0..0x20).filter(|b| ![9, 10].contains(b)).chain([0x7f]).collect();
+    let with = |before: &[u8], after: &[u8]| [before, &controls, after].concat();
+    l.k("R20: in a comment", k_insert(3, with(b"#", b"x")));
+    l.k("R20: in a name", k_line(1, with(b"<code_set_name> \"", b"x\"")));
+    let no_cr: Vec<u8> = controls.iter().copied().filter(|b| *b != 13).collect();
+    l.k("R20: behind an ignored key", k_insert(3, [b"<a> ", &no_cr[..], b" x"].concat()));
+    for c in no_cr {
+        let what = format!("R20: control {c:02X}");
+        l.no(&format!("{what} alone"), k_insert(3, [c]), 10, 3);
+        l.no(&format!("{what} before a digit"), k_line(3, [b"<mb_cur_max>", &[c][..], b"2"].concat()), 12, 3);
+        l.no(&format!("{what} in a row"), k_line(6, [b"<icu:state> 30", &[c][..]].concat()), 12, 6);
+        l.no(&format!("{what} in a mapping"), k_line(9, [b"<U002D> \\x2D |0", &[c][..]].concat()), 10, 9);
+        l.no(&format!("{what} behind CHARMAP"), k_line(8, [b"CHARMAP", &[c][..]].concat()), 10, 8);
+        l.no(&format!("{what} in END CHARMAP"), k_line(15, [b"END", &[c][..], b"CHARMAP"].concat()), 10, 15);
+    }
+}
+
+/// Readings R21 to R27 and R34.
+fn rule_readings(l: &mut List) {
+    // R21
+    let k_row = |row: &str| {
+        let mut lines = k_lines();
+        lines.insert(7, format!("<icu:state> {row}").into_bytes());
+        joined(&lines)
+    };
+    l.no("R21: T2 of a row not reached", k_row("30:3"), 16, 9);
+    l.no("R21: T2 of a row not reached, row 0", k_row("30:0"), 16, 9);
+    l.yes("R21: a circle not reached", k_row("30:2"), [3, 6, 1, 2, 0x3f00_0000, 1, 0]);
+    l.yes("R21: a long way not reached", k_row("30:1"), [3, 6, 1, 2, 0x3f00_0000, 1, 0]);
+    l.no("R21: a circle of two reached", mbcs(4, "\\x30", &["30, 81:1", "30:2", "30:1"], &[]), 16, 9);
+    l.yes("R21: a circle of two not reached", mbcs(1, "\\x30", &["30", "30:2", "30:1"], &[]),
+        [3, 0, 1, 1, 0x3000_0000, 1, 0]);
+
+    // R22
+    let k_sbcs = k_line(4, "<uconv_class> \"SBCS\"");
+    l.k("R22: K as SBCS", &k_sbcs);
+    let lines = ["<U0041> \\x41"];
+    let wide = text(1, 4, "SBCS", "<subchar> \\x3F", &[], &lines);
+    l.yes("R22: SBCS with max 4", wide, [1, 1, 1, 4, 0x3f00_0000, 1, 0]);
+    let narrow = text(2, 4, "SBCS", "<subchar> \\x3F", &[], &lines);
+    l.no("R22: SBCS with min 2", narrow, 21, 7);
+    let empty = text(1, 1, "SBCS", "<subchar> \\x3F", &[""], &[]);
+    l.no("R22: SBCS with an empty row has no code", empty, 16, 7);
+    let one = text(1, 1, "SBCS", "<subchar> \\x3F", &["3f"], &["<U0041> \\x41"]);
+    l.no("R22: SBCS with a row has that row", one, 21, 8);
+
+    // R23
+    l.no("R23: |0 again", k_insert(10, "<U002D> \\x2D |0"), 24, 10);
+    l.no("R23: |0 again, unmarked", k_insert(10, "<U002D> \\x2D"), 24, 10);
+    l.no("R23: |3 again", k_insert(15, "<U2212> \\x81\\x7D |3"), 24, 15);
+    l.no("R23: |1 again", k_insert(14, "<UFF0D> \\x81\\x7C |1"), 25, 14);
+    let sub = "<subchar> \\x3F\n<subchar1> \\x1A";
+    l.no("R23: |2 again", sbcs(sub, &["<U0041> \\x1A |2", "<U0042> \\x1A |2", "<U0041> \\x1A |2"]), 25, 10);
+    l.no("R23: |2 and |0", sbcs(sub, &["<U0041> \\x1A |2", "<U0041> \\x42 |0"]), 25, 9);
+    l.no("R23: |2 and |1", sbcs(sub, &["<U0041> \\x1A |2", "<U0041> \\x42 |1"]), 25, 9);
+    l.no("R23: |1 and |2", sbcs(sub, &["<U0041> \\x42 |1", "<U0041> \\x1A |2"]), 25, 9);
+    l.no("R23: |0 and |2", sbcs(sub, &["<U0041> \\x42 |0", "<U0041> \\x1A |2"]), 25, 9);
+    let free = ["<U0041> \\x1A |0", "<U0042> \\x1A |1", "<U0043> \\x1A |1", "<U0044> \\x1A |2", "<U0045> \\x1A |2",
+        "<U0041> \\x41 |3", "<U0041> \\x42 |3", "<U0044> \\x43 |3", "<U0042> \\x44 |3"];
+    l.yes("R23: what T9 leaves free", sbcs(sub, &free), [1, 9, 1, 1, 0x3f00_0000, 1, 0x1b]);
+    let mut turned = free;
+    turned.reverse();
+    l.yes("R23: what T9 leaves free, other way", sbcs(sub, &turned), [1, 9, 1, 1, 0x3f00_0000, 1, 0x1b]);
+
+    // R25
+    l.yes("R25: subchar ends in u", k_line(5, "<subchar> \\x81\\x80"), [2, 6, 1, 2, 0x8180_0000, 2, 0]);
+    let t = text(2, 2, "MBCS", "<subchar> \\x3F\n<subchar1> \\x40", &["3f, 40.u, 81:1", "0-ff"],
+        &["<U0041> \\x81\\x00", "<U0042> \\x40 |2", "<U10FFFF> \\x40 |2"]);
+    l.yes("R25: shorter than min, ended by u, |2 above U+FFFF", t, [2, 3, 2, 2, 0x3f00_0000, 1, 0x41]);
+    let t = text(2, 2, "MBCS", "<subchar> \\x3F\n<subchar1> \\x40", &["3f, 40.u, 81:1", "0-ff"],
+        &["<UD800> \\x40 |2"]);
+    l.no("R25: |2 keeps T6", t, 20, 10);
+
+    // R26
+    l.no("R26: :0 without a point", k_line(7, "<icu:state> 7c-7d, 80:0"), 16, 8);
+    let p = |row: &str, line: &str| mbcs(1, "\\x30", &[row], &[line]);
+    l.no("R26: one byte, no p", p("30-39", "<U10000> \\x31"), 21, 8);
+    l.yes("R26: one byte, p", p("30-39.p", "<U10000> \\x31"), [1, 1, 1, 1, 0x3000_0000, 1, 0]);
+    l.yes("R26: p up to U+FFFF too", p("30-39.p", "<UFFFF> \\x31"), [1, 1, 1, 1, 0x3000_0000, 1, 0]);
+    l.yes("R26: the last code point", p("30-39:0.p", "<U10FFFF> \\x31 |3"), [1, 1, 1, 1, 0x3000_0000, 1, 0]);
+
+    // R34
+    let zero = sbcs("<subchar> \\x00\n<subchar1> \\x00", &["<U0000> \\x00 |0"]);
+    l.yes("R34: zeros", &zero, [1, 1, 1, 1, 0, 1, 1]);
+    let none = sbcs("<subchar> \\x00", &["<U0000> \\x00 |0"]);
+    l.yes("R34: zeros, no subchar1", &none, [1, 1, 1, 1, 0, 1, 0]);
+    l.to("R34: reads 00", &none, "00", 9, STRICT, 0, 1, "00");
+    l.from("R34: writes 00", &none, "00", 9, STRICT, 0, 1, "00");
+    let empty = sbcs("<subchar> \\x00\n<subchar1> \\x00", &[]);
+    l.to("R34: 00 without its line", &empty, "00", 9, STRICT, 53, 0, "");
+    l.to("R34: 00 without its line, substitute", &empty, "00", 9, SUBST, 0, 1, "1A");
+    l.from("R34: U+0000 without its line", &empty, "00", 9, STRICT, 53, 0, "");
+    l.from("R34: U+0000 without its line, substitute", &empty, "00", 9, SUBST, 0, 1, "00");
+    let sub = sbcs("<subchar> \\x3F\n<subchar1> \\x00", &["<U0000> \\x00 |2"]);
+    l.yes("R34: |2 with 00", &sub, [1, 1, 1, 1, 0x3f00_0000, 1, 1]);
+    l.from("R34: |2 with 00", &sub, "00", 9, SUBST, 0, 1, "00");
+    let rows = ["0-ff:1", "0-ff"];
+    let t = mbcs(2, "\\x00\\x00", &rows, &["<U0000> \\x00\\x00 |3"]);
+    l.yes("R34: 00 00 with |3", &t, [2, 1, 1, 2, 0, 2, 0]);
+    l.to("R34: reads 00 00", &t, "0000", 9, STRICT, 0, 2, "00");
+}
+
+/// Lent memory, longest text (numbers 1 and 2).
+fn sizes(l: &mut List) {
+    let long = |n: usize| {
+        let mut t = K.as_bytes().to_vec();
+        t.push(b'#');
+        t.resize(n, b'x');
+        t
+    };
+    l.k1("1,048,576 bytes", long(1_048_576));
+    l.no1("1,048,577 bytes", long(1_048_577), 2, 0);
+    l.no1("1,048,577 bytes of no form", vec![0xff; 1_048_577], 2, 0);
+    l.no1("1,048,577 line ends", vec![b'\n'; 1_048_577], 2, 0);
+    l.no1("1,048,576 line ends", vec![b'\n'; 1_048_576], 27, 1_048_577);
+    l.no1("1,048,576 bytes of no form", vec![0xff; 1_048_576], 10, 1);
+    let mut late = vec![b'\n'; 1_048_575];
+    late.push(b'x');
+    l.no1("the last of 1,048,576 bytes", late, 10, 1_048_576);
+    l.no1("a key of nearly the whole text", [b"<", &vec![b'k'; 1_048_574][..], b">"].concat(), 27, 2);
+    l.no1("a key that never ends", [b"<", &vec![b'k'; 1_048_575][..]].concat(), 10, 1);
+
+    let short = |which: usize, by: usize| {
+        let mut m = junk(3);
+        match which {
+            0 => m.states.truncate(STATE_PLACES - by),
+            1 => m.codes.truncate(MAPPING_PLACES - by),
+            2 => m.infos.truncate(MAPPING_PLACES - by),
+            _ => m.order.truncate(MAPPING_PLACES - by),
+        }
+        m
+    };
+    let texts = [("K", K.as_bytes().to_vec()), ("empty", vec![]), ("too long", vec![b'#'; 1_048_577]),
+        ("no form", b"x".to_vec())];
+    for (which, slice) in ["states", "codes", "infos", "order"].into_iter().enumerate() {
+        for by in [1, 2, MAPPING_PLACES] {
+            for (what, text) in texts.clone() {
+                l.add(format!("{slice} {by} too short, {what} text: 1"), move |s| {
+                    let mut memory = short(which, by);
+                    let got = s.load(&text, &mut memory);
+                    equal("answer", got, Loaded { number: 1, line: 0, record: [0; 7] })?;
+                    equal_memory(&memory, &short(which, by))
+                });
+            }
+            l.add(format!("test behind 60, {slice} {by} too short: 60"), move |s| {
+                let (record, loaded) = is_accepted(s, K.as_bytes())?;
+                let mut memory = loaded;
+                let keep = short(which, by);
+                memory.states.truncate(keep.states.len());
+                memory.codes.truncate(keep.codes.len());
+                memory.infos.truncate(keep.infos.len());
+                memory.order.truncate(keep.order.len());
+                equal("check", s.check(&record, &memory), 60)
+            });
+        }
+    }
+    l.add("all slices empty: 1", |s| {
+        let mut memory = Memory::default();
+        let got = s.load(K.as_bytes(), &mut memory);
+        equal("answer", got, Loaded { number: 1, line: 0, record: [0; 7] })?;
+        equal("check", s.check(&K_RECORD, &memory), 60)
+    });
+    for extra in [0, 1, 1000] {
+        l.add(format!("slices {extra} places longer"), move |s| {
+            for (text, number) in [(K.as_bytes().to_vec(), 0), (k_delete(15), 27), (vec![b'#'; 1_048_577], 2)] {
+                let mut memory = junk(extra);
+                let got = s.load(&text, &mut memory);
+                equal("number", got.number, number)?;
+                let old = junk(extra);
+                equal_slices("states", &memory.states[STATE_PLACES..], &old.states[STATE_PLACES..])?;
+                equal_slices("codes", &memory.codes[MAPPING_PLACES..], &old.codes[MAPPING_PLACES..])?;
+                equal_slices("infos", &memory.infos[MAPPING_PLACES..], &old.infos[MAPPING_PLACES..])?;
+                equal_slices("order", &memory.order[MAPPING_PLACES..], &old.order[MAPPING_PLACES..])?;
+                if number == 0 {
+                    equal("check", s.check(&got.record, &memory), 0)?;
+                    let mut out = old_bytes(9);
+                    let got = s.to_utf8(&got.record, &memory, b"\x81\x7c3", &mut out, false);
+                    equal("to UTF-8", got, Piped { number: 0, read: 3, written: 4 })?;
+                }
+            }
+            Ok(())
+        });
+    }
+    l.add("a second load forgets the first", |s| {
+        let mut memory = junk(2);
+        s.load(&many(2048), &mut memory);
+        let got = s.load(K.as_bytes(), &mut memory);
+        let mut fresh = junk(2);
+        equal("answer", got, s.load(K.as_bytes(), &mut fresh))?;
+        equal_memory(&memory, &fresh)
+    });
+}
+
+/// The fixed form, number by number.
+fn forms(l: &mut List) {
+    // All cells, 1 to 4 bytes, all indicators, lines in no order.
+    let rows = ["30-3f, 81:1, 90.u, a0-a1.p, b0:4", "40, 41.p, 42:2, 43.u", "50-51, 52:3", "60.p, 61", "ff",
+        "30:5"];
+    let lines = [
+        "<U0041> \\x30 |0",
+        "<U10FFFF> \\x81\\x42\\x52\\x60 |0",
+        "<U0042> \\x81\\x40 |0",
+        "<U0041> \\x81\\x42\\x50 |3",
+        "<U0041> \\x31 |3",
+        "<U0043> \\x30 |1",
+        "<U1F600> \\xA0 |1",
+        "<U1F601> \\x3F |2",
+        "<U0044> \\x3F |2",
+        "<U0040> \\xB0\\xFF |0",
+        "<U0000> \\x3F |3",
+    ];
+    let t = text(1, 4, "MBCS", "<subchar> \\x81\\x42\\x50\n<subchar1> \\x3F", &rows, &lines);
+    l.form(
+        "all kinds",
+        &t,
+        [6, 11, 1, 4, 0x8142_5000, 3, 0x40],
+        &[
+            (0, 0x30, 0x3f, 1),
+            (0, 0x81, 0x81, 17),
+            (0, 0x90, 0x90, 3),
+            (0, 0xa0, 0xa1, 2),
+            (0, 0xb0, 0xb0, 20),
+            (1, 0x40, 0x40, 1),
+            (1, 0x41, 0x41, 2),
+            (1, 0x42, 0x42, 18),
+            (1, 0x43, 0x43, 3),
+            (2, 0x50, 0x51, 1),
+            (2, 0x52, 0x52, 19),
+            (3, 0x60, 0x60, 2),
+            (3, 0x61, 0x61, 1),
+            (4, 0xff, 0xff, 1),
+            (5, 0x30, 0x30, 21),
+        ],
+        &[
+            (0x3000_0000, 0x0000_0041),
+            (0x3000_0000, 0x0040_0043),
+            (0x3100_0000, 0x0020_0041),
+            (0x3f00_0000, 0x0020_0000),
+            (0x3f00_0000, 0x0060_0044),
+            (0x3f00_0000, 0x0061_f601),
+            (0x8140_0000, 0x0100_0042),
+            (0x8142_5000, 0x0220_0041),
+            (0x8142_5260, 0x0310_ffff),
+            (0xa000_0000, 0x0041_f600),
+            (0xb0ff_0000, 0x0100_0040),
+        ],
+        // 0000, 0040, 0041 |0, 0041 |3 by bytes, 0042, 0043, 0044, 1F600, 1F601, 10FFFF
+        &[3, 10, 0, 2, 7, 6, 1, 4, 9, 5, 8],
+    );
+    l.form(
+        "SBCS without rows",
+        sbcs("<subchar> \\xFF", &["<U0002> \\x00", "<U0001> \\xFF", "<U0003> \\x01"]),
+        [1, 3, 1, 1, 0xff00_0000, 1, 0],
+        &[(0, 0, 255, 1)],
+        &[(0, 2), (0x0100_0000, 3), (0xff00_0000, 1)],
+        &[2, 0, 1],
+    );
+    l.form(
+        "|3 behind the others in order",
+        sbcs(
+            "<subchar> \\xFF\n<subchar1> \\x50",
+            &["<U0041> \\x41 |3", "<U0041> \\x42 |0", "<U0041> \\x40 |3", "<U0042> \\x43 |3", "<U0042> \\x44 |1",
+                "<U0043> \\x45 |3", "<U0043> \\x50 |2", "<U0044> \\x42 |1"],
+        ),
+        [1, 8, 1, 1, 0xff00_0000, 1, 0x51],
+        &[(0, 0, 255, 1)],
+        &[
+            (0x4000_0000, 0x0020_0041),
+            (0x4100_0000, 0x0020_0041),
+            (0x4200_0000, 0x0000_0041),
+            (0x4200_0000, 0x0040_0044),
+            (0x4300_0000, 0x0020_0042),
+            (0x4400_0000, 0x0040_0042),
+            (0x4500_0000, 0x0020_0043),
+            (0x5000_0000, 0x0060_0043),
+        ],
+        &[2, 0, 1, 5, 4, 7, 6, 3],
+    );
+    l.form("no mappings", mbcs(1, "\\x30", &["30"], &[]), [1, 0, 1, 1, 0x3000_0000, 1, 0], &[(0, 0x30, 0x30,
+        1)], &[], &[]);
+    l.form(
+        "overlapping entries",
+        mbcs(2, "\\x30", &["0-ff, 20-2f.u, 40-7f:1, 50-5f.p, 55.i, 30-30", "0-ff.i, 80:0., 7f-81.p, 80"], &[]),
+        [2, 0, 1, 2, 0x3000_0000, 1, 0],
+        &[
+            (0, 0, 255, 1),
+            (0, 0x20, 0x2f, 3),
+            (0, 0x40, 0x7f, 17),
+            (0, 0x50, 0x5f, 2),
+            (0, 0x55, 0x55, 0),
+            (1, 0x7f, 0x81, 2),
+            (1, 0x80, 0x80, 1),
+        ],
+        &[],
+        &[],
+    );
+    let shuffled = k_change(&[
+        (9, "<U2212> \\x81\\x7D |3"),
+        (10, "<UFF0D> \\x81\\x7C |1"),
+        (11, "<U2212> \\x81\\x7C |0"),
+        (12, "<U0033> \\x33 |0"),
+        (13, "<U002D> \\x2D |0"),
+        (14, "<U0030> \\x30 |0"),
+    ]);
+    l.k("K with its lines shuffled", shuffled);
+    let turned: Vec<Bytes> = [4, 6, 3, 7, 2, 5, 1, 8, 9, 10, 11, 12, 13, 14,
+        15].map(|n: usize| k_lines()[n - 1].clone()).to_vec();
+    l.k("K with its header shuffled", joined(&turned));
+    // The full table, forwards and backwards, has one form.
+    l.add("2,048 lines backwards: one form", |s| {
+        let text = many(2048);
+        let mut lines: Vec<&[u8]> = text.split(|&b| b == b'\n').collect();
+        lines[8..8 + 2048].reverse();
+        let (record, memory) = is_accepted(s, &text)?;
+        let (other_record, other) = is_accepted(s, &lines.join(&b'\n'))?;
+        equal("record", other_record, record)?;
+        equal_memory(&other, &memory)?;
+        for i in 0..2048 {
+            equal("codes", memory.codes[i], (0x100 + i as u32) << 16)?;
+            equal("infos", memory.infos[i], 0x100_0000 + 0x100 + i as u32)?;
+            equal("order", memory.order[i], i as u32)?;
+        }
+        Ok(())
+    });
+}
+
+/// The test behind 60 on K and its like, one change at a time.
+fn behind_60(l: &mut List) {
+    l.behind60("K", 0, |_, _| {});
+    l.behind60("places behind are free", 0, |_, m| {
+        m.states[4096] = 9;
+        m.codes[2048] = 9;
+        m.infos[2048] = 9;
+        m.order[2048] = 9;
+    });
+    for i in 0..7 {
+        for v in [0u32, 1, 2, 3, 4, 5, 6, 7, 16, 17, 0x3f00_0000, 0x3f00_0001, 0x3f00_0100, 2048, 2049, u32::MAX] {
+            // Changes that leave a table: more rows (empty ones), a larger max.
+            let fine = K_RECORD[i] == v
+                || (i == 0 && (2..=16).contains(&v))
+                || (i == 3 && (3..=4).contains(&v));
+            l.behind60(&format!("record[{i}] = {v}"), if fine { 0 } else { 60 }, move |r, _| r[i] = v);
+        }
+    }
+    l.behind60("subchar 33", 0, |r, _| r[4] = 0x3300_0000);
+    l.behind60("subchar 34", 60, |r, _| r[4] = 0x3400_0000);
+    l.behind60("subchar 81 7C", 0, |r, _| (r[4], r[5]) = (0x817c_0000, 2));
+    l.behind60("subchar 81 80", 0, |r, _| (r[4], r[5]) = (0x8180_0000, 2));
+    l.behind60("subchar 81 7C of three bytes", 60, |r, _| (r[4], r[5]) = (0x817c_0000, 3));
+    l.behind60("subchar 81 7C of one byte", 60, |r, _| (r[4], r[5]) = (0x817c_0000, 1));
+    l.behind60("subchar 81", 60, |r, _| (r[4], r[5]) = (0x8100_0000, 1));
+    l.behind60("subchar of 2^32 - 1 bytes", 60, |r, _| r[5] = u32::MAX);
+    l.behind60("subchar1 33", 0, |r, _| r[6] = 0x34);
+    l.behind60("subchar1 34", 60, |r, _| r[6] = 0x35);
+    l.behind60("subchar1 81", 60, |r, _| r[6] = 0x82);
+    l.behind60("subchar1 33 and 256 more", 60, |r, _| r[6] = 0x134);
+    l.behind60("min 2", 60, |r, _| r[2] = 2);
+    l.behind60("max 3", 0, |r, _| r[3] = 3);
+    l.behind60("max 5", 60, |r, _| r[3] = 5);
+    l.behind60("a row more, all illegal", 0, |r, _| r[0] = 3);
+    l.behind60("16 rows", 0, |r, _| r[0] = 16);
+    l.behind60("17 rows", 60, |r, _| r[0] = 17);
+    l.behind60("one row", 60, |r, _| r[0] = 1);
+    l.behind60("a number in an unused row", 60, |_, m| m.states[4095] = 1);
+    l.behind60("a number in the first unused row", 60, |_, m| m.states[512] = 1);
+    for v in [4u16, 5, 15, 16, 18, 31, 32, 255, 256, 65535] {
+        l.behind60(&format!("state {v} in row 0"), 60, move |_, m| m.states[0] = v);
+        l.behind60(&format!("state {v} in row 1"), 60, move |_, m| m.states[511] = v);
+    }
+    for v in [0u16, 1, 2, 3, 17] {
+        l.behind60(&format!("state {v} in a free place of row 0"), 0, move |_, m| m.states[0] = v);
+    }
+    for v in [0u16, 1, 2, 3] {
+        l.behind60(&format!("state {v} in a free place of row 1"), 0, move |_, m| m.states[511] = v);
+    }
+    l.behind60("row 1 in a circle", 60, |_, m| m.states[511] = 17);
+    l.behind60("too deep", 60, |r, m| {
+        r[0] = 3;
+        m.states[511] = 18;
+    });
+    l.behind60("deep enough with max 3", 0, |r, m| {
+        r[0] = 3;
+        r[3] = 3;
+        m.states[511] = 18;
+    });
+    l.behind60("a used code ended by u", 60, |_, m| m.states[0x2d] = 3);
+    l.behind60("a used code ended by p", 0, |_, m| m.states[0x2d] = 2);
+    l.behind60("a used code illegal", 60, |_, m| m.states[0x2d] = 0);
+    l.behind60("a used code leads on", 60, |_, m| m.states[0x2d] = 17);
+    l.behind60("subchar illegal", 60, |_, m| m.states[0x3f] = 0);
+    l.behind60("subchar ended by u", 0, |_, m| m.states[0x3f] = 3);
+    l.behind60("seven mappings, the last of zeros", 60, |r, _| r[1] = 7);
+    l.behind60("five mappings", 60, |r, _| r[1] = 5);
+    l.behind60("a code in an unused place", 60, |_, m| m.codes[6] = 1);
+    l.behind60("an info in an unused place", 60, |_, m| m.infos[6] = 1);
+    l.behind60("an order in an unused place", 60, |_, m| m.order[6] = 1);
+    l.behind60("a code in the last unused place", 60, |_, m| m.codes[2047] = 1);
+    l.behind60("an info in the last unused place", 60, |_, m| m.infos[2047] = 1);
+    l.behind60("an order in the last unused place", 60, |_, m| m.order[2047] = 1);
+    l.behind60("another code point, in order", 0, |_, m| m.infos[0] = 0x2e);
+    l.behind60("a code point out of order", 60, |_, m| m.infos[0] = 0x31);
+    l.behind60("a code point out of order, the order mended", 0, |_, m| {
+        m.infos[0] = 0x31;
+        m.order[..2].copy_from_slice(&[1, 0]);
+    });
+    l.behind60("a surrogate", 60, |_, m| {
+        m.infos[0] = 0xd800;
+        m.order[..6].copy_from_slice(&[1, 2, 3, 5, 0, 4]);
+    });
+    l.behind60("above 10FFFF", 60, |_, m| {
+        m.infos[0] = 0x11_0000;
+        m.order[..6].copy_from_slice(&[1, 2, 3, 5, 4, 0]);
+    });
+    l.behind60("above FFFF without p", 60, |_, m| {
+        m.infos[0] = 0x1_0000;
+        m.order[..6].copy_from_slice(&[1, 2, 3, 5, 4, 0]);
+    });
+    l.behind60("above FFFF with p", 0, |_, m| {
+        m.infos[0] = 0x1_0000;
+        m.states[0x2d] = 2;
+        m.order[..6].copy_from_slice(&[1, 2, 3, 5, 4, 0]);
+    });
+    l.behind60("entries swapped", 60, |_, m| {
+        m.codes.swap(0, 1);
+        m.infos.swap(0, 1);
+        m.order[..2].copy_from_slice(&[1, 0]);
+    });
+    l.behind60("order swapped", 60, |_, m| m.order.swap(0, 1));
+    l.behind60("order twice", 60, |_, m| m.order[1] = 0);
+    l.behind60("order outside", 60, |_, m| m.order[5] = 6);
+    l.behind60("order far outside", 60, |_, m| m.order[5] = u32::MAX);
+    l.behind60("|3 before |0 in order", 60, |_, m| m.order.swap(3, 4));
+    l.behind60("rank 4", 60, |_, m| m.infos[5] += 3 << 21);
+    l.behind60("rank 7", 60, |_, m| m.infos[5] += 6 << 21);
+    l.behind60("length 5", 60, |_, m| m.infos[5] += 3 << 24);
+    l.behind60("length 256", 60, |_, m| m.infos[5] |= 0xff00_0000);
+    l.behind60("length 1 for two bytes", 60, |_, m| m.infos[5] -= 1 << 24);
+    l.behind60("length 3 for two bytes", 60, |_, m| m.infos[5] += 1 << 24);
+    l.behind60("bits behind the code", 60, |_, m| m.codes[5] += 1);
+    l.behind60("|0 made |1", 0, |_, m| m.infos[0] += 2 << 21);
+    l.behind60("|0 made |3", 0, |_, m| m.infos[0] += 1 << 21);
+    l.behind60("|0 made |2 without subchar1", 60, |_, m| m.infos[0] += 3 << 21);
+    l.behind60("|0 made |2 with subchar1", 0, |r, m| {
+        m.infos[0] += 3 << 21;
+        r[6] = 0x2e;
+    });
+    l.behind60("|0 made |2 with another subchar1", 60, |r, m| {
+        m.infos[0] += 3 << 21;
+        r[6] = 0x31;
+    });
+    l.behind60("T9 by bytes", 60, |_, m| m.infos[4] = 0x0120_ff0d);
+    l.behind60("T9 by code point", 60, |_, m| m.infos[5] = 0x0100_2212);
+    l.behind60("T9 by code point, |1", 60, |_, m| m.infos[5] = 0x0140_2212);
+    l.behind60("an entry twice", 60, |_, m| {
+        m.codes[1] = m.codes[0];
+        m.infos[1] = m.infos[0];
+    });
+    l.behind60("another code in order", 0, |_, m| {
+        m.codes[0] = 0x2e00_0000;
+        m.states[0x2e] = 1;
+    });
+    let rows = ["0:1, 30", "0-ff"];
+    let t = mbcs(2, "\\x30", &rows, &["<U0041> \\x00\\x41 |3"]);
+    l.behind60_of("00 41 with |3", &t, 0, |_, _| {});
+    l.behind60_of("00 41 with |0", &t, 60, |_, m| m.infos[0] -= 1 << 21);
+    l.behind60_of("00 41 with |1", &t, 60, |_, m| m.infos[0] += 1 << 21);
+    let bare = mbcs(1, "\\x30", &["30"], &[]);
+    for (min, max, want) in [(1, 1, 0), (2, 1, 60), (4, 1, 60), (4, 3, 60), (4, 4, 0), (0, 1, 60), (4, 5, 60),
+        (5, 5, 60), (0, 0, 60), (1, 4, 0), (2, 3, 0)] {
+        l.behind60_of(&format!("min {min} and max {max}"), &bare, want, move |r, _| (r[2], r[3]) = (min, max));
+    }
+    l.behind60_of("|2 with 00 and no subchar1", sbcs("<subchar> \\x00\n<subchar1> \\x00", &["<U0041> \\x00 |2"]), 60,
+        |r, _| r[6] = 0);
+    let zero = sbcs("<subchar> \\x00", &["<U0000> \\x00"]);
+    l.behind60_of("the mapping of zeros", &zero, 0, |_, _| {});
+    l.behind60_of("the mapping of zeros not counted", &zero, 0, |r, _| r[1] = 0);
+    l.behind60_of("the mapping of zeros twice", &zero, 60, |r, _| r[1] = 2);
+    l.behind60_of("2,048 mappings", many(2048), 0, |_, _| {});
+    l.behind60_of("2,047 of 2,048 mappings", many(2048), 60, |r, _| r[1] = 2047);
+    l.behind60_of("2,049 of 2,048 mappings", many(2048), 60, |r, _| r[1] = 2049);
+    l.behind60_of("the last of 2,048 left out", many(2048), 0, |r, m| {
+        r[1] = 2047;
+        m.codes[2047] = 0;
+        m.infos[2047] = 0;
+        m.order[2047] = 0;
+    });
+    l.add("test behind 60, all zeros: 60", |s| {
+        equal("check", s.check(&[0; 7], &Memory::zeros()), 60)?;
+        equal("check", s.check(&K_RECORD, &Memory::zeros()), 60)
+    });
+    l.add("test behind 60, a refused load: 60", |s| {
+        let mut memory = junk(0);
+        let got = s.load(b"x", &mut memory);
+        equal("check", s.check(&got.record, &memory), 60)
+    });
+    l.add("test behind 60, old values: 60", |s| equal("check", s.check(&K_RECORD, &junk(0)), 60));
+}
+
+/// Both pipes beyond document 01's cases (R28, R29, R31 among them).
+fn conversions(l: &mut List) {
+    // Every space from 0 to enough; what fits goes out.
+    let out = "E28892 33 E28892";
+    for (space, number, read, written) in [(0, 50, 0, ""), (1, 50, 0, ""), (2, 50, 0, ""), (3, 50, 2, "E28892"),
+        (4, 50, 3, "E2889233"),
+        (5, 50, 3, "E2889233"), (6, 50, 3, "E2889233"), (7, 0, 5, out), (8, 0, 5, out)] {
+        l.to(&format!("space {space}"), K, "817C33817D", space, STRICT, number, read, written);
+    }
+    for (space, number, read, written) in [(0, 50, 0, ""), (1, 50, 0, ""), (2, 50, 3, "817C"), (3, 0, 4,
+        "817C33"), (4, 0, 4, "817C33")] {
+        l.from(&format!("space {space}"), K, "E2889233", space, STRICT, number, read, written);
+    }
+    l.to("no space, no input", K, "", 0, STRICT, 0, 0, "");
+    l.from("no space, no input", K, "", 0, STRICT, 0, 0, "");
+    // At one place the earlier line wins: 51, 52, 53 before 50.
+    l.to("51 before 50", K, "81", 0, SUBST, 51, 0, "");
+    l.to("52 before 50", K, "FF", 0, SUBST, 52, 0, "");
+    l.to("53 before 50", K, "3F", 0, STRICT, 53, 0, "");
+    l.to("50 when substituted", K, "3F", 2, SUBST, 50, 0, "");
+    l.to("50 at the first place, 52 at the second", K, "33FF", 0, STRICT, 50, 0, "");
+    l.to("52 behind what fits", K, "33FF", 1, STRICT, 52, 1, "33");
+    l.from("51 before 50", K, "E288", 0, SUBST, 51, 0, "");
+    l.from("52 before 50", K, "FF", 0, SUBST, 52, 0, "");
+    l.from("53 before 50", K, "41", 0, STRICT, 53, 0, "");
+    l.from("50 when substituted", K, "41", 0, SUBST, 50, 0, "");
+    l.from("50 at the first place, 52 at the second", K, "33FF", 0, STRICT, 50, 0, "");
+    l.from("what was written stands", K, "3330FF33", 9, STRICT, 52, 2, "3330");
+    l.to("what was written stands", K, "3330FF33", 9, STRICT, 52, 2, "3330");
+    // K's bytes, all of them.
+    for b in 0..=255u32 {
+        let input = format!("{b:02X}");
+        let (number, read, out) = match b {
+            0x2d | 0x30 | 0x33 => (0, 1, input.clone()),
+            0x3f => (0, 1, "EFBFBD".to_string()),
+            0x81 => (51, 0, String::new()),
+            _ => (52, 0, String::new()),
+        };
+        l.to(&format!("byte {input}"), K, &input, 9, SUBST, number, read, &out);
+        let (number, read, out) = match b {
+            0x7c | 0x7d => (0, 2, "E28892".to_string()),
+            0x80 => (0, 2, "EFBFBD".to_string()),
+            _ => (52, 0, String::new()),
+        };
+        l.to(&format!("bytes 81 {input}"), K, &format!("81{input}"), 9, SUBST, number, read, &out);
+    }
+    // R28: cut short only where a well-formed sequence could go on.
+    for (input, number) in [("C2", 51), ("DF", 51), ("E0", 51), ("E0A0", 51), ("E0BF", 51), ("E1", 51), ("E180",
+        51), ("ED", 51), ("ED9F", 51),
+        ("EE80", 51), ("EFBF", 51), ("F0", 51), ("F090", 51), ("F09080", 51), ("F0BFBF", 51), ("F1", 51),
+        ("F180", 51), ("F18080", 51), ("F3BFBF", 51),
+        ("F4", 51), ("F480", 51), ("F48F", 51), ("F48FBF", 51), ("80", 52), ("BF", 52), ("C0", 52), ("C080",
+        52), ("C1", 52), ("C1BF", 52),
+        ("C27F", 52), ("C2C0", 52), ("E080", 52), ("E09F", 52), ("E09F80", 52), ("E0A07F", 52), ("E0C0", 52),
+        ("E17F", 52), ("E1807F", 52), ("E180C0", 52),
+        ("EDA0", 52), ("EDA080", 52), ("EDBF", 52), ("EDBFBF", 52), ("F080", 52), ("F08F", 52), ("F08FBFBF",
+        52), ("F0907F", 52), ("F09080C0", 52),
+        ("F18080C0", 52), ("F1807F", 52), ("F490", 52), ("F4908080", 52), ("F4BF", 52), ("F5", 52), ("F580",
+        52), ("F8", 52), ("F888808080", 52), ("FC", 52), ("FE", 52), ("FF", 52),
+        ("C241", 52), ("E28833", 52), ("F0908033", 52)] {
+        l.from(&format!("R28: {input}"), K, input, 9, SUBST, number, 0, "");
+        l.from(&format!("R28: 33 {input}"), K, &format!("33{input}"), 9, SUBST, number, 1, "33");
+    }
+    for input in ["00", "7F", "C280", "DFBF", "E0A080", "ED9FBF", "EE8080", "EFBFBF", "F0908080", "F48FBFBF",
+        "F3BFBFBF"] {
+        let read = hex(input).len() as u64;
+        l.from(&format!("well-formed {input}, strict"), K, input, 9, STRICT, 53, 0, "");
+        l.from(&format!("well-formed {input}"), K, input, 9, SUBST, 0, read, "3F");
+    }
+    let empty_row = mbcs(3, "\\x30", &["30, 81:1, 82:2", "", "40:1"], &["<U0030> \\x30"]);
+    for (input, number, read, out) in [("81", 51, 0, ""), ("3081", 51, 1, "30"), ("8140", 52, 0, ""), ("82", 51,
+        0, ""), ("8240", 51, 0, ""), ("824040", 52, 0, ""), ("8241", 52, 0, "")] {
+        l.to(&format!("R28: empty row, {input}"), &empty_row, input, 9, SUBST, number, read, out);
+    }
+    // One to four bytes a code and a character.
+    let rows = ["30-3f, 81:1", "40-4f.p, 42:2", "50-5f.p, 52:3", "60-6f.p"];
+    let lines = ["<U0041> \\x31", "<U00E4> \\x81\\x40", "<U20AC> \\x81\\x42\\x50",
+        "<U1F600> \\x81\\x42\\x52\\x60", "<U10FFFF> \\x81\\x42\\x52\\x61 |0"];
+    let four = mbcs(4, "\\x81\\x42\\x52\\x6F", &rows, &lines);
+    let codes = "31 8140 814250 81425260 81425261";
+    let chars = "41 C3A4 E282AC F09F9880 F48FBFBF";
+    l.to("one to four bytes", &four, codes, 20, STRICT, 0, 14, chars);
+    l.from("one to four bytes", &four, chars, 20, STRICT, 0, 14, codes);
+    l.from("subchar of four bytes", &four, "42", 4, SUBST, 0, 1, "8142526F");
+    l.from("subchar of four bytes, space 3", &four, "42", 3, SUBST, 50, 0, "");
+    l.to("four bytes cut", &four, "814252", 9, SUBST, 51, 0, "");
+    l.to("four bytes broken", &four, "81425299", 9, SUBST, 52, 0, "");
+    l.to("four bytes unassigned", &four, "81425262", 9, SUBST, 0, 4, "EFBFBD");
+    // R29 and the substitutes.
+    let rows = ["30-3f, 90.u, 81:1", "40, 80.u"];
+    let sub = "<subchar> \\x81\\x40\n<subchar1> \\x3F";
+    let lines = ["<U0030> \\x30 |0", "<U0031> \\x31 |1", "<U0032> \\x3F |2", "<U0033> \\x33 |3",
+        "<U0034> \\x30 |1"];
+    let t = text(1, 2, "MBCS", sub, &rows, &lines);
+    for (input, out) in [("90", "1A"), ("35", "1A"), ("31", "1A"), ("3F", "1A"), ("33", "33"), ("8140",
+        "EFBFBD"), ("8180", "EFBFBD")] {
+        let read = hex(input).len() as u64;
+        l.to(&format!("R29: {input}"), &t, input, 9, SUBST, 0, read, out);
+        if out != "33" {
+            l.to(&format!("R29: {input}, strict"), &t, input, 9, STRICT, 53, 0, "");
+        }
+    }
+    for (input, set, number, out) in [
+        ("30", STRICT, 0, "30"),
+        ("31", STRICT, 53, ""),
+        ("31", SUBST, 0, "8140"),
+        ("31", FALL, 0, "31"),
+        ("31", FALL_SUBST, 0, "31"),
+        ("32", STRICT, 53, ""),
+        ("32", SUBST, 0, "3F"),
+        ("32", FALL, 53, ""),
+        ("32", FALL_SUBST, 0, "3F"),
+        ("33", STRICT, 53, ""),
+        ("33", SUBST, 0, "8140"),
+        ("33", FALL, 53, ""),
+        ("34", SUBST, 0, "8140"),
+        ("34", FALL, 0, "30"),
+        ("35", SUBST, 0, "8140"),
+    ] {
+        let how = format!("U+00{input}, fallback {}, substitute {}", set.fallback, set.substitute);
+        let read = if number == 0 { 1 } else { 0 };
+        l.from(&how, &t, input, 9, set, number, read, out);
+    }
+    // Cut short, illegal and well-formed as the Rust standard library has them.
+    l.add("from UTF-8 agrees with the standard library", |s| {
+        let (record, memory) = is_accepted(s, K.as_bytes())?;
+        let bounds = [0x00, 0x41, 0x7f, 0x80, 0x8f, 0x90, 0x9f, 0xa0, 0xbf, 0xc0, 0xc2, 0xe0, 0xff];
+        let trails = [0x7f, 0x80, 0xbf, 0xc0];
+        let mut inputs: Vec<Bytes> = Vec::new();
+        for a in 0..=255u8 {
+            inputs.push(vec![a]);
+            for b in 0..=255u8 {
+                if a >= 0xc0 || bounds.contains(&b) {
+                    inputs.push(vec![a, b]);
+                }
+                if a >= 0xc0 && bounds.contains(&b) {
+                    for c in trails {
+                        inputs.push(vec![a, b, c]);
+                        inputs.extend(trails.map(|d| vec![a, b, c, d]));
+                    }
+                }
+            }
+        }
+        for input in inputs {
+            let (number, read) = match std::str::from_utf8(&input) {
+                Ok(_) => (0, input.len()),
+                Err(e) if e.error_len().is_none() => (51, e.valid_up_to()),
+                Err(e) => (52, e.valid_up_to()),
+            };
+            let got = s.from_utf8(&record, &memory, &input, &mut [0; 16], false, true);
+            equal(&format!("{input:02x?}"), (got.number, got.read), (number, read as u64))?;
+        }
+        Ok(())
+    });
+    // A long frame.
+    l.add("to UTF-8, 4,096 bytes: 0", |s| {
+        let (record, memory) = is_accepted(s, K.as_bytes())?;
+        let input = b"\x81\x7c".repeat(2048);
+        let mut output = old_bytes(6144 + 7);
+        let got = s.to_utf8(&record, &memory, &input, &mut output, false);
+        equal("answer", got, Piped { number: 0, read: 4096, written: 6144 })?;
+        let mut want = old_bytes(6144 + 7);
+        want[..6144].copy_from_slice(&b"\xe2\x88\x92".repeat(2048));
+        equal_slices("output", &output, &want)
+    });
+}
+
+/// The audit beyond document 01's cases (R30, R31 among them).
+fn audits(l: &mut List) {
+    let begin = (0, 0);
+    let at = position;
+    let list = [("3F", 2), ("817D", 3), ("8180", 1)];
+    // Fallback on writes the same for K.
+    l.audit("K, fallback", K, true, begin, 99, 9, 0, &list, at("8180"), true, 7);
+    l.audit("K, endless allowance", K, false, begin, u64::MAX, 9, 0, &list, at("8180"), true, 7);
+    // Code by code: 2D 30 33 3F 817C 817D 8180.
+    let codes = ["2D", "30", "33", "3F", "817C", "817D", "8180"];
+    for n in 1..=7u64 {
+        let listed = match n {
+            ..=3 => 0,
+            4 | 5 => 1,
+            6 => 2,
+            _ => 3,
+        };
+        let to = at(codes[n as usize - 1]);
+        l.audit(&format!("allowance {n}"), K, false, begin, n, 9, 0, &list[..listed], to, n == 7, n);
+    }
+    l.audit("allowance of all but one more", K, false, begin, 8, 9, 0, &list, at("8180"), true, 7);
+    for (space, to, count) in [(0, at("33"), 3), (1, at("817C"), 5), (2, at("817D"), 6), (3, at("8180"), 7)] {
+        l.audit(&format!("space {space}"), K, false, begin, 99, space, 0, &list[..space], to, space == 3, count);
+    }
+    for (i, code) in codes.iter().enumerate() {
+        let rest = match i {
+            ..=2 => &list[..],
+            3 | 4 => &list[1..],
+            5 => &list[2..],
+            _ => &[],
+        };
+        let left = 6 - i as u64;
+        l.audit(&format!("from {code}"), K, false, at(code), 99, 9, 0, rest, at("8180"), true, left);
+        // R30: finished is a fact about the position, with allowance 0 too.
+        l.audit(&format!("R30: allowance 0 at {code}"), K, false, at(code), 0, 9, 0, &[], at(code), i == 6, 0);
+        l.audit(&format!("R30: no allowance and no space at {code}"), K, false, at(code), 0, 0, 0, &[],
+            at(code), i == 6, 0);
+    }
+    l.audit("R30: no space, looks at those that come home", K, false, begin, 2, 0, 0, &[], at("30"), false, 2);
+    l.audit("R30: no space at the last", K, false, at("817D"), 99, 0, 0, &[], at("817D"), false, 0);
+    l.audit("R30: no space, nothing left", K, false, at("8180"), 99, 0, 0, &[], at("8180"), true, 0);
+    // Positions that are neither.
+    for (bits, len, why) in [
+        (0x8100_0000, 1, "a lead"),
+        (0x3400_0000, 1, "illegal"),
+        (0x817f_0000, 2, "illegal second byte"),
+        (0x3333_0000, 2, "two codes"),
+        (0x817c_3300, 3, "a code and more"),
+        (0x3300_0001, 1, "unused bits"),
+        (0x3380_0000, 1, "unused bits"),
+        (0x817c_0000, 1, "too short a length"),
+        (0x817c_0000, 3, "too long a length"),
+        (0x3300_0000, 5, "length 5"),
+        (0x3300_0000, 257, "length 257"),
+        (0x3300_0000, u32::MAX, "length 2^32 - 1"),
+        (0x3300_0000, 0, "no length"),
+        (1, 0, "no length"),
+        (0, 1, "00"),
+        (0, 4, "00 00 00 00"),
+        (0, 5, "no bits, length 5"),
+    ] {
+        let from = (bits, len);
+        let name = format!("position {bits:08X}, {len}: {why}");
+        l.audit(&name, K, false, from, 99, 9, 40, &[], from, false, 0);
+        l.audit(&format!("{name}, allowance and space 0"), K, true, from, 0, 0, 40, &[], from, false, 0);
+    }
+    // R31 and the causes.
+    let rows = ["30-3a, 90.u"];
+    let sub = "<subchar> \\x30\n<subchar1> \\x3A";
+    let lines = [
+        "<U0030> \\x30 |0", // comes home
+        "<U0031> \\x31 |3", // written by nothing: 4
+        "<U0032> \\x32 |3", // a |2 code point: 4 (R31)
+        "<U0032> \\x3A |2", // read by nothing: 2
+        "<U0033> \\x33 |3", // written as 34 with fallback, else 4
+        "<U0033> \\x34 |1", // read by nothing: 2
+        "<U0035> \\x35 |3", // comes home through |1 with fallback, else 4
+        "<U0035> \\x35 |1",
+        "<U0030> \\x36 |3", // written as 30: 3
+        "<U0037> \\x37 |1", // not read: 2
+    ];
+    let t = text(1, 1, "MBCS", sub, &rows, &lines);
+    let off = [("31", 4), ("32", 4), ("33", 4), ("34", 2), ("35", 4), ("36", 3), ("37", 2), ("38", 2), ("39",
+        2), ("3A", 2), ("90", 1)];
+    let on = [("31", 4), ("32", 4), ("33", 3), ("34", 2), ("36", 3), ("37", 2), ("38", 2), ("39", 2), ("3A", 2),
+        ("90", 1)];
+    l.audit("causes, fallback off", &t, false, begin, 99, 20, 0, &off, at("90"), true, 12);
+    l.audit("causes, fallback on", &t, true, begin, 99, 20, 0, &on, at("90"), true, 12);
+    // 00, codes of all lengths, dead ends between.
+    let rows = ["0, 1:1, 2:2, 3:4, ff", "0.u, 1:2, ff:4", "5:3, 6:4", "0-1", ""];
+    let t = mbcs(4, "\\x00", &rows, &["<U0000> \\x00", "<UFFFF> \\xFF"]);
+    let list = [("0100", 1), ("01010500", 2), ("01010501", 2), ("020500", 2), ("020501", 2)];
+    l.audit("dead ends", &t, false, begin, 99, 9, 0, &list, at("FF"), true, 7);
+    l.audit("dead ends, from 02 05 01", &t, false, at("020501"), 99, 9, 0, &[], at("FF"), true, 1);
+    l.audit("00 is a position, not the beginning", &t, false, at("00"), 1, 9, 0, &list[..1], at("0100"), false, 1);
+    l.audit("the end of a long code", &t, false, at("01010500"), 1, 9, 0, &list[2..3], at("01010501"), false, 1);
+    let t = mbcs(2, "\\x00", &["0, 81:1", ""], &["<U0000> \\x00"]);
+    l.audit("finished before a dead end", &t, false, at("00"), 0, 0, 0, &[], at("00"), true, 0);
+    l.audit("the lead before a dead end", &t, false, at("81"), 0, 0, 40, &[], at("81"), false, 0);
+    // 65,280 ways that end nowhere before the last code.
+    let t = mbcs(3, "\\xFF", &["0-fe:1, ff", "0-ff:2", ""], &["<U0041> \\xFF"]);
+    l.audit("many dead ends", &t, false, begin, 1, 0, 0, &[], at("FF"), true, 1);
+    l.audit("many dead ends, allowance 0", &t, false, begin, 0, 0, 0, &[], begin, false, 0);
+    // Four bytes deep, all bytes: only pieces of it.
+    let t = mbcs(4, "\\x00\\x00\\x00\\x00", &["0-ff:1", "0-ff:2", "0-ff:3", "0-ff.p"],
+        &["<U0041> \\xFF\\xFF\\xFF\\xFF"]);
+    l.audit("2^32 codes, the first", &t, false, begin, 1, 9, 0, &[("00000000", 2)], at("00000000"), false, 1);
+    l.audit("2^32 codes, a carry", &t, false, at("00FFFFFF"), 2, 9, 0, &[("01000000", 2), ("01000001", 2)],
+        at("01000001"), false, 2);
+    l.audit("2^32 codes, the last", &t, false, at("FFFFFFFE"), 9, 0, 0, &[], at("FFFFFFFF"), true, 1);
+    l.audit("2^32 codes, behind the last", &t, false, at("FFFFFFFF"), 9, 9, 0, &[], at("FFFFFFFF"), true, 0);
+    l.audit("2^32 codes, before the last two", &t, false, at("FFFFFFFD"), 9, 1, 0, &[("FFFFFFFE", 2)],
+        at("FFFFFFFF"), true, 2);
+}

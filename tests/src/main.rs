@@ -1,0 +1,237 @@
+//! The outside tests: hand-written cases and random ones, on the oracle and on
+//! the library. OBOEPOND_CASES="seed:count" sets seed and number of random
+//! cases; case n of a run with seed s is case 0 of a run with seed s + n.
+//! OBOEPOND_TRACE=1 names every random case before it runs.
+
+#[cfg(not(feature = "oracle-only"))]
+mod abi;
+#[rustfmt::skip]
+mod cases;
+mod gen;
+mod oracle;
+mod random;
+#[cfg(not(feature = "oracle-only"))]
+mod raw;
+mod subject;
+#[cfg(not(feature = "oracle-only"))]
+mod sys;
+
+use random::{Group, Reached, GROUPS, TO_REACH};
+use std::any::Any;
+use std::io::Write;
+use std::panic::{catch_unwind, AssertUnwindSafe};
+use std::sync::atomic::{AtomicU64, Ordering};
+use std::sync::Mutex;
+use std::time::{Duration, Instant};
+use subject::{Oracle, Subject};
+
+const DEFAULT_CASES: (u64, u64) = (1, 40_000);
+/// Failures printed in one group of cases.
+const MOST_PRINTED: usize = 12;
+
+static PASSED: AtomicU64 = AtomicU64::new(0);
+static FAILED: AtomicU64 = AtomicU64::new(0);
+
+// A case that does not end is named by a watch.
+static BEATS: AtomicU64 = AtomicU64::new(0);
+static CURRENT: Mutex<String> = Mutex::new(String::new());
+
+fn begin(what: impl Into<String>) {
+    BEATS.fetch_add(1, Ordering::Relaxed);
+    *CURRENT.lock().unwrap_or_else(|e| e.into_inner()) = what.into();
+}
+
+fn watch() {
+    std::thread::spawn(|| {
+        let (mut last, mut still) = (0, 0);
+        loop {
+            std::thread::sleep(Duration::from_secs(1));
+            let now = BEATS.load(Ordering::Relaxed);
+            still = if now == last { still + 1 } else { 0 };
+            last = now;
+            if still >= 120 {
+                let what = CURRENT.lock().unwrap_or_else(|e| e.into_inner()).clone();
+                println!("FAILED: no end within two minutes, the run is given up: {what}");
+                FAILED.fetch_add(1, Ordering::Relaxed);
+                finish();
+            }
+        }
+    });
+}
+
+/// The last line and the exit status.
+fn finish() -> ! {
+    let (passed, failed) = (PASSED.load(Ordering::Relaxed), FAILED.load(Ordering::Relaxed));
+    println!("{passed} passed, {failed} failed");
+    std::process::exit(if failed > 0 || passed == 0 { 1 } else { 0 })
+}
+
+#[derive(Default)]
+struct Tally {
+    /// Failures of the list at hand.
+    here: usize,
+}
+
+impl Tally {
+    fn count(&mut self, subject: &str, name: &str, outcome: Result<(), String>) {
+        match outcome {
+            Ok(()) => {
+                PASSED.fetch_add(1, Ordering::Relaxed);
+            }
+            Err(why) => {
+                FAILED.fetch_add(1, Ordering::Relaxed);
+                self.here += 1;
+                if self.here <= MOST_PRINTED {
+                    println!("FAILED [{subject}] {name}\n  {why}");
+                } else if self.here == MOST_PRINTED + 1 {
+                    println!("(further failures of this list are counted, not printed)");
+                }
+            }
+        }
+    }
+}
+
+/// A panic is a failure of its case.
+fn guarded(run: impl FnOnce() -> Result<(), String>) -> Result<(), String> {
+    catch_unwind(AssertUnwindSafe(run)).unwrap_or_else(|e| Err(format!("panic: {}", panic_text(e))))
+}
+
+fn panic_text(e: Box<dyn Any + Send>) -> String {
+    match (e.downcast_ref::<String>(), e.downcast_ref::<&str>()) {
+        (Some(s), _) => s.clone(),
+        (_, Some(s)) => s.to_string(),
+        _ => "unknown".into(),
+    }
+}
+
+fn hand_written(s: &dyn Subject, tally: &mut Tally) {
+    let start = Instant::now();
+    tally.here = 0;
+    let list = cases::all();
+    let n = list.cases.len();
+    for case in list.cases {
+        begin(format!("[{}] {}", s.name(), case.name));
+        tally.count(s.name(), &case.name, guarded(|| (case.run)(s)));
+    }
+    println!("[{}] {n} hand-written cases, {:.1} s", s.name(), start.elapsed().as_secs_f64());
+}
+
+/// The generator of case `i` of a group.
+fn case_rng(seed: u64, i: u64, group: &str) -> gen::Rng {
+    let mut name = 0xcbf2_9ce4_8422_2325u64;
+    for b in group.bytes() {
+        name = (name ^ b as u64).wrapping_mul(0x100_0000_01b3);
+    }
+    let mut mix = gen::Rng::new(seed.wrapping_add(i) ^ name.rotate_left(17));
+    gen::Rng::new(mix.next())
+}
+
+fn random_group(
+    s: &dyn Subject,
+    group: &Group,
+    compare: bool,
+    seed: u64,
+    count: u64,
+    reached: &mut Reached,
+) -> Result<(), String> {
+    let trace = std::env::var_os("OBOEPOND_TRACE").is_some();
+    for i in 0..count {
+        let label = format!("[{}] {}, OBOEPOND_CASES=\"{}:1\"", s.name(), group.name, seed.wrapping_add(i));
+        if trace {
+            println!("{label}");
+            let _ = std::io::stdout().flush();
+        }
+        begin(label.clone());
+        let mut rng = case_rng(seed, i, group.name);
+        let made = catch_unwind(AssertUnwindSafe(|| (group.make)(&mut rng)));
+        let input = made.map_err(|e| format!("generator: {}\n  at {label}", panic_text(e)))?;
+        let first = guarded(|| random::run(s, &input, compare, reached));
+        let Err(why) = first else { continue };
+        // Shrink as far as the disagreement with the oracle lasts.
+        let mut unseen = Reached::default();
+        let mut fails = |candidate: &random::Input| {
+            begin(label.clone());
+            compare && guarded(|| random::run(s, candidate, true, &mut unseen)).is_err()
+        };
+        std::panic::set_hook(Box::new(|_| {}));
+        let small = random::shrink(&input, &mut fails);
+        let _ = std::panic::take_hook();
+        let small_why = guarded(|| random::run(s, &small, compare, &mut unseen)).err().unwrap_or(why);
+        return Err(format!("{small_why}\n  first at {label}\n{}", random::show(&small)));
+    }
+    Ok(())
+}
+
+fn random_groups(s: &dyn Subject, compare: bool, seed: u64, count: u64, tally: &mut Tally) {
+    let mut reached = Reached::default();
+    for group in GROUPS {
+        if !compare && !group.on_oracle {
+            continue; // nothing known by construction to hold the oracle against
+        }
+        let start = Instant::now();
+        tally.here = 0;
+        let n = (count * group.share / 1000).max(1);
+        let outcome = random_group(s, group, compare, seed, n, &mut reached);
+        println!("[{}] {}: {n} cases, {:.1} s", s.name(), group.name, start.elapsed().as_secs_f64());
+        tally.count(s.name(), group.name, outcome);
+    }
+    for (what, _) in TO_REACH {
+        let seen: Vec<String> = reached
+            .counts
+            .iter()
+            .filter(|((w, _), _)| w == what)
+            .map(|((_, number), n)| format!("{number} x {n}"))
+            .collect();
+        println!("[{}] reached, {what}: {}", s.name(), seen.join(", "));
+    }
+    // Every number has to be met in a run of some size.
+    if compare && count >= 20_000 {
+        let mut missing = Vec::new();
+        for (what, numbers) in TO_REACH {
+            for &number in *numbers {
+                if !reached.counts.contains_key(&(*what, number)) {
+                    missing.push(format!("{what} {number}"));
+                }
+            }
+        }
+        let outcome = if missing.is_empty() { Ok(()) } else { Err(missing.join(", ")) };
+        tally.here = 0;
+        tally.count(s.name(), "every number is reached", outcome);
+    }
+}
+
+fn settings() -> (u64, u64) {
+    let Ok(text) = std::env::var("OBOEPOND_CASES") else { return DEFAULT_CASES };
+    let parsed = text.split_once(':').and_then(|(s, c)| Some((s.trim().parse().ok()?, c.trim().parse().ok()?)));
+    parsed.unwrap_or_else(|| {
+        println!("OBOEPOND_CASES is \"seed:count\", two numbers; got \"{text}\"");
+        std::process::exit(2);
+    })
+}
+
+fn main() {
+    let (seed, count) = settings();
+    println!("OBOEPOND_CASES=\"{seed}:{count}\"");
+    watch();
+    let mut tally = Tally::default();
+
+    hand_written(&Oracle, &mut tally);
+    random_groups(&Oracle, false, seed, count, &mut tally);
+
+    #[cfg(not(feature = "oracle-only"))]
+    {
+        let library = sys::Library;
+        hand_written(&library, &mut tally);
+        tally.here = 0;
+        for (name, run) in abi::CASES {
+            begin(*name);
+            tally.count(library.name(), name, guarded(run));
+        }
+        println!("[library] {} cases of the C calls", abi::CASES.len());
+        random_groups(&library, true, seed, count, &mut tally);
+    }
+    #[cfg(feature = "oracle-only")]
+    println!("the library is not linked: the oracle alone was run");
+
+    finish();
+}

@@ -1,0 +1,798 @@
+//! Random cases in groups. A case is an `Input`; what is known of its answer by
+//! construction is checked on every subject, and the library is compared with
+//! the oracle in everything: answers, record, whole slices with the places
+//! behind, whole outputs. A failing case is shrunk and printed.
+
+use crate::cases::{equal, equal_memory, equal_slices, junk, old_bytes, old_entries};
+use crate::gen::{self, Change, Made, Rng};
+use crate::oracle::{self, Cell, Kind, Memory, Record, Table, MAPPING_PLACES, STATE_PLACES};
+use crate::subject::{Oracle, Subject};
+use std::collections::BTreeMap;
+use std::time::{Duration, Instant};
+
+/// Lengths of states, codes, infos, order.
+type Lengths = [usize; 4];
+const NEEDED: Lengths = [STATE_PLACES, MAPPING_PLACES, MAPPING_PLACES, MAPPING_PLACES];
+
+/// What is known of a load by construction.
+#[derive(Clone)]
+pub enum Known {
+    Nothing,
+    Accepted(Box<Table>),
+    Refused(u32, u64),
+}
+
+#[derive(Clone)]
+pub enum Act {
+    Check {
+        known: Option<u32>,
+    },
+    To {
+        input: Vec<u8>,
+        spaces: Vec<usize>,
+        substitute: bool,
+        known: Option<Vec<u8>>,
+    },
+    From {
+        input: Vec<u8>,
+        spaces: Vec<usize>,
+        fallback: bool,
+        substitute: bool,
+        known: Option<Vec<u8>>,
+    },
+    /// Pieces (allowance, space) from a position on, each from where the last
+    /// one ended. `whole`: they end at the finish, and joined they are the
+    /// plain list.
+    Audit {
+        fallback: bool,
+        position: (u32, u32),
+        pieces: Vec<(u64, usize)>,
+        whole: bool,
+    },
+}
+
+#[derive(Clone)]
+pub enum Input {
+    Load {
+        text: Vec<u8>,
+        lengths: Lengths,
+        known: Known,
+    },
+    /// The form of a text, then changed, in slices of these lengths.
+    Memory {
+        base: Vec<u8>,
+        changes: Vec<Change>,
+        lengths: Lengths,
+        act: Act,
+    },
+}
+
+// ---------------------------------------------------------------------------
+// Counting what was reached
+// ---------------------------------------------------------------------------
+
+/// How often each number was met, by kind of call.
+#[derive(Default)]
+pub struct Reached {
+    pub counts: BTreeMap<(&'static str, u32), u64>,
+}
+
+impl Reached {
+    fn note(&mut self, what: &'static str, number: u32) {
+        *self.counts.entry((what, number)).or_insert(0) += 1;
+    }
+}
+
+/// What a run of some thousand cases has to reach.
+pub const TO_REACH: &[(&str, &[u32])] = &[
+    ("load", &[0, 1, 2, 10, 11, 12, 13, 14, 15, 16, 20, 21, 22, 23, 24, 25, 26, 27]),
+    ("check", &[0, 60]),
+    ("to UTF-8", &[0, 50, 51, 52, 53, 60]),
+    ("from UTF-8", &[0, 50, 51, 52, 53, 60]),
+    ("audit", &[0, 40, 60]),
+    ("cause", &[1, 2, 3, 4]),
+];
+
+// ---------------------------------------------------------------------------
+// One case
+// ---------------------------------------------------------------------------
+
+fn with_lengths(lengths: Lengths) -> Memory {
+    let most = lengths.iter().zip(NEEDED).map(|(&l, n)| l.saturating_sub(n)).max().unwrap_or(0);
+    let mut m = junk(most);
+    m.states.truncate(lengths[0]);
+    m.codes.truncate(lengths[1]);
+    m.infos.truncate(lengths[2]);
+    m.order.truncate(lengths[3]);
+    m
+}
+
+/// Record and memory of a base text (zeros if it is refused) after changes.
+fn prepare(base: &[u8], changes: &[Change], lengths: Lengths) -> (Record, Memory) {
+    let (mut record, form) = match oracle::meaning_of_text(base) {
+        Ok(table) => oracle::form(&table),
+        Err(_) => ([0; 7], Memory::zeros()),
+    };
+    let most = lengths.iter().zip(NEEDED).map(|(&l, n)| l.saturating_sub(n)).max().unwrap_or(0);
+    let mut memory = junk(most);
+    memory.set_needed(&form);
+    gen::apply(changes, &mut record, &mut memory);
+    memory.states.truncate(lengths[0]);
+    memory.codes.truncate(lengths[1]);
+    memory.infos.truncate(lengths[2]);
+    memory.order.truncate(lengths[3]);
+    (record, memory)
+}
+
+/// Runs a case on a subject. With `compare`, everything is compared with the
+/// oracle too.
+pub fn run(s: &dyn Subject, input: &Input, compare: bool, reached: &mut Reached) -> Result<(), String> {
+    match input {
+        Input::Load { text, lengths, known } => {
+            let mut memory = with_lengths(*lengths);
+            let got = s.load(text, &mut memory);
+            reached.note("load", got.number);
+            match known {
+                Known::Nothing => {}
+                Known::Accepted(table) => {
+                    let (record, form) = oracle::form(table);
+                    equal("number and line", (got.number, got.line), (0, 0))?;
+                    equal("record", got.record, record)?;
+                    let mut want = with_lengths(*lengths);
+                    want.set_needed(&form);
+                    equal_memory(&memory, &want)?;
+                    equal("check of the loaded memory", s.check(&got.record, &memory), 0)?;
+                }
+                Known::Refused(number, line) => {
+                    equal("number and line", (got.number, got.line), (*number, *line))?;
+                    equal("record", got.record, [0; 7])?;
+                    let mut want = with_lengths(*lengths);
+                    if *number > 2 {
+                        want.set_needed(&Memory::zeros());
+                    }
+                    equal_memory(&memory, &want)?;
+                }
+            }
+            if compare {
+                let mut other = with_lengths(*lengths);
+                let want = Oracle.load(text, &mut other);
+                equal("answer against the oracle", got, want)?;
+                equal_memory(&memory, &other)?;
+                let (a, b) = (s.check(&got.record, &memory), Oracle.check(&got.record, &memory));
+                equal("check of the loaded memory", a, b)?;
+            }
+            Ok(())
+        }
+        Input::Memory { base, changes, lengths, act } => {
+            let (record, memory) = prepare(base, changes, *lengths);
+            let before = memory.clone();
+            run_act(s, &record, &memory, act, compare, reached)?;
+            equal_memory(&memory, &before)
+        }
+    }
+}
+
+fn run_act(
+    s: &dyn Subject,
+    record: &Record,
+    memory: &Memory,
+    act: &Act,
+    compare: bool,
+    reached: &mut Reached,
+) -> Result<(), String> {
+    match act {
+        Act::Check { known } => {
+            let got = s.check(record, memory);
+            reached.note("check", got);
+            if let Some(want) = known {
+                equal("check", got, *want)?;
+            }
+            if compare {
+                equal("check against the oracle", got, Oracle.check(record, memory))?;
+            }
+            Ok(())
+        }
+        Act::To { input, spaces, substitute, known } => {
+            for &space in spaces {
+                let mut output = old_bytes(space);
+                let got = s.to_utf8(record, memory, input, &mut output, *substitute);
+                reached.note("to UTF-8", got.number);
+                if let Some(want) = known {
+                    check_known(got, &output, input.len(), want)?;
+                }
+                if compare {
+                    let mut other = old_bytes(space);
+                    let want = Oracle.to_utf8(record, memory, input, &mut other, *substitute);
+                    equal(&format!("answer with space {space}"), got, want)?;
+                    equal_slices(&format!("output with space {space}"), &output, &other)?;
+                }
+            }
+            Ok(())
+        }
+        Act::From { input, spaces, fallback, substitute, known } => {
+            for &space in spaces {
+                let mut output = old_bytes(space);
+                let got = s.from_utf8(record, memory, input, &mut output, *fallback, *substitute);
+                reached.note("from UTF-8", got.number);
+                if let Some(want) = known {
+                    check_known(got, &output, input.len(), want)?;
+                }
+                if compare {
+                    let mut other = old_bytes(space);
+                    let want = Oracle.from_utf8(record, memory, input, &mut other, *fallback, *substitute);
+                    equal(&format!("answer with space {space}"), got, want)?;
+                    equal_slices(&format!("output with space {space}"), &output, &other)?;
+                }
+            }
+            Ok(())
+        }
+        Act::Audit { fallback, position, pieces, whole } => {
+            let (mut bits, mut len) = *position;
+            let mut joined = Vec::new();
+            let mut count = 0;
+            let mut finished = false;
+            for (i, &(allowance, space)) in pieces.iter().enumerate() {
+                let mut entries = old_entries(space);
+                let got = s.audit(record, memory, *fallback, bits, len, allowance, &mut entries);
+                reached.note("audit", got.number);
+                if compare {
+                    let mut other = old_entries(space);
+                    let want = Oracle.audit(record, memory, *fallback, bits, len, allowance, &mut other);
+                    equal(&format!("answer of piece {}", i + 1), got, want)?;
+                    equal_slices(&format!("entries of piece {}", i + 1), &entries, &other)?;
+                }
+                if got.entries as usize > space {
+                    return Err(format!("{} entries in a space of {space}", got.entries));
+                }
+                let listed = got.entries as usize;
+                equal_slices("space left", &entries[listed..], &old_entries(space)[listed..])?;
+                for e in &entries[..listed] {
+                    reached.note("cause", (e >> 40) as u32);
+                }
+                joined.extend_from_slice(&entries[..listed]);
+                count += got.count;
+                finished = got.finished;
+                (bits, len) = (got.bits, got.len);
+            }
+            if *whole {
+                // One run with the same end, and the plain list.
+                let table = oracle::meaning_of(record, memory).ok_or("the base is no table")?;
+                let plain = plain_list(&table, *fallback).ok_or("too many codes for a plain list")?;
+                let upto = plain.iter().position(|(code, _)| (oracle::bits_of(code), code.len() as u32) == (bits, len));
+                let looked = upto.map_or(0, |i| i + 1);
+                let want: Vec<u64> = plain[..looked]
+                    .iter()
+                    .filter_map(|(code, cause)| cause.map(|c| oracle::entry_number(code, c)))
+                    .collect();
+                equal_slices("joined entries and the plain list", &joined, &want)?;
+                equal("summed counts", count, looked as u64)?;
+                equal("finished", finished, looked == plain.len())?;
+                let mut entries = old_entries(want.len());
+                let got = s.audit(record, memory, *fallback, 0, 0, count, &mut entries);
+                equal("count of one run", got.count, count)?;
+                equal("position of one run", (got.bits, got.len), (bits, len))?;
+                equal_slices("entries of one run", &entries, &want)?;
+            }
+            Ok(())
+        }
+    }
+}
+
+/// With space enough: all read, exactly this written.
+fn check_known(got: oracle::Piped, output: &[u8], read: usize, want: &[u8]) -> Result<(), String> {
+    let written = want.len();
+    if output.len() >= written {
+        equal("answer", got, oracle::Piped { number: 0, read: read as u64, written: written as u64 })?;
+        equal_slices("output", &output[..written], want)?;
+        equal_slices("output behind", &output[written..], &old_bytes(output.len())[written..])
+    } else {
+        equal("number without space", got.number, 50)?;
+        let n = got.written as usize;
+        equal_slices("output so far", &output[..n], &want[..n])?;
+        equal_slices("output behind", &output[n..], &old_bytes(output.len())[n..])
+    }
+}
+
+/// Document 01's plain list straight from the lines, without the oracle's walk
+/// and look-up: every complete code in byte order with its cause, if any.
+fn plain_list(t: &Table, fallback: bool) -> Option<Vec<(Vec<u8>, Option<u64>)>> {
+    let codes = oracle::all_codes(t, 3_000)?;
+    let mut list = Vec::new();
+    for code in codes {
+        let reads = t.lines.iter().find(|l| matches!(l.kind, Kind::Both | Kind::ToUnicode) && l.code == code);
+        let cause = if oracle::complete(&t.rows, &code) == Some(Cell::Unassigned) {
+            Some(1)
+        } else if let Some(line) = reads {
+            let writes = t
+                .lines
+                .iter()
+                .find(|l| l.cp == line.cp && (l.kind == Kind::Both || (fallback && l.kind == Kind::FromUnicode)));
+            match writes {
+                Some(w) if w.code == code => None,
+                Some(_) => Some(3),
+                None => Some(4),
+            }
+        } else {
+            Some(2)
+        };
+        list.push((code, cause));
+    }
+    Some(list)
+}
+
+// ---------------------------------------------------------------------------
+// Groups
+// ---------------------------------------------------------------------------
+
+pub struct Group {
+    pub name: &'static str,
+    /// Share of the cases, in thousandths.
+    pub share: u64,
+    /// Something is known by construction, so that it tests the oracle too.
+    pub on_oracle: bool,
+    pub make: fn(&mut Rng) -> Input,
+}
+
+pub const GROUPS: &[Group] = &[
+    Group { name: "load: valid tables in random dress", share: 90, on_oracle: true, make: load_valid },
+    Group { name: "load: full tables", share: 3, on_oracle: true, make: load_full },
+    Group { name: "load: a text for each number", share: 80, on_oracle: true, make: load_number },
+    Group { name: "load: damaged texts", share: 90, on_oracle: false, make: load_damaged },
+    Group { name: "load: nearly right lines", share: 190, on_oracle: false, make: load_near },
+    Group { name: "load: several rules broken on a line", share: 60, on_oracle: false, make: load_several },
+    Group { name: "load: hostile texts", share: 57, on_oracle: false, make: load_hostile },
+    Group { name: "load: short and long slices", share: 20, on_oracle: false, make: load_slices },
+    Group { name: "test behind 60: forms of valid tables", share: 30, on_oracle: true, make: check_valid },
+    Group { name: "test behind 60: one number changed", share: 70, on_oracle: false, make: check_change },
+    Group { name: "test behind 60: changed tables, disorder", share: 70, on_oracle: false, make: check_broken },
+    Group { name: "test behind 60: random memories", share: 20, on_oracle: false, make: check_random },
+    Group { name: "pipes: known texts both ways", share: 40, on_oracle: true, make: pipe_known },
+    Group { name: "to UTF-8: valid, damaged, cut frames", share: 50, on_oracle: false, make: to_random },
+    Group { name: "from UTF-8: valid, damaged, cut", share: 50, on_oracle: false, make: from_random },
+    Group { name: "pipes and audit over changed memory", share: 30, on_oracle: false, make: act_changed },
+    Group { name: "audit: random calls", share: 30, on_oracle: false, make: audit_random },
+    Group { name: "audit: pieces joined, one run, plain list", share: 20, on_oracle: true, make: audit_pieces },
+];
+
+/// The needed lengths and a few more places.
+fn lengths(rng: &mut Rng) -> Lengths {
+    NEEDED.map(|n| n + *rng.pick(&[0, 0, 1, 5]))
+}
+
+fn a_table(rng: &mut Rng) -> Made {
+    if rng.one_in(200) {
+        let n = *rng.pick(&[500, 2047, 2048]);
+        gen::full_table(rng, n)
+    } else {
+        let lines = *rng.pick(&[4, 16, 60]);
+        gen::random_table(rng, lines)
+    }
+}
+
+fn load_valid(rng: &mut Rng) -> Input {
+    let lines = *rng.pick(&[3, 20, 80]);
+    let made = gen::random_table(rng, lines);
+    let text = gen::text_of(rng, &made);
+    Input::Load { text, lengths: lengths(rng), known: Known::Accepted(Box::new(made.table)) }
+}
+
+fn load_full(rng: &mut Rng) -> Input {
+    let n = *rng.pick(&[1000, 2047, 2048, 2048]);
+    let made = gen::full_table(rng, n);
+    let text = gen::text_of(rng, &made);
+    Input::Load { text, lengths: lengths(rng), known: Known::Accepted(Box::new(made.table)) }
+}
+
+fn load_number(rng: &mut Rng) -> Input {
+    let number = if rng.one_in(20) { 26 } else { *rng.pick(&gen::TEXT_NUMBERS) };
+    let number = if number == 26 && !rng.one_in(3) { 24 } else { number };
+    let (text, line) = gen::text_for(rng, number);
+    Input::Load { text, lengths: lengths(rng), known: Known::Refused(number, line) }
+}
+
+fn load_damaged(rng: &mut Rng) -> Input {
+    let made = if rng.one_in(300) { gen::full_table(rng, 2048) } else { gen::random_table(rng, 12) };
+    let text = gen::text_of(rng, &made);
+    Input::Load { text: gen::mutate(rng, &text), lengths: lengths(rng), known: Known::Nothing }
+}
+
+fn load_near(rng: &mut Rng) -> Input {
+    Input::Load { text: gen::near_text(rng), lengths: lengths(rng), known: Known::Nothing }
+}
+
+fn load_several(rng: &mut Rng) -> Input {
+    Input::Load { text: gen::several_text(rng), lengths: lengths(rng), known: Known::Nothing }
+}
+
+fn load_hostile(rng: &mut Rng) -> Input {
+    Input::Load { text: gen::hostile_text(rng), lengths: lengths(rng), known: Known::Nothing }
+}
+
+fn load_slices(rng: &mut Rng) -> Input {
+    let mut text = match rng.below(3) {
+        0 => {
+            let made = gen::random_table(rng, 8);
+            gen::text_of(rng, &made)
+        }
+        1 => gen::hostile_text(rng),
+        _ => Vec::new(),
+    };
+    if rng.one_in(6) {
+        // Around the longest text.
+        let end = if text.ends_with(b"\n") || text.is_empty() { b'#' } else { b'x' };
+        text.push(end);
+        text.resize(oracle::MAX_TEXT - 2 + rng.below(5), b'x');
+    }
+    let lengths = NEEDED.map(|n| match rng.below(12) {
+        0 => rng.below(n),
+        1 => n - 1,
+        2 => 0,
+        3 => n + 300,
+        _ => n + rng.below(3),
+    });
+    Input::Load { text, lengths, known: Known::Nothing }
+}
+
+fn check_valid(rng: &mut Rng) -> Input {
+    let made = a_table(rng);
+    Input::Memory {
+        base: gen::text_of(rng, &made),
+        changes: Vec::new(),
+        lengths: lengths(rng),
+        act: Act::Check { known: Some(0) },
+    }
+}
+
+fn check_change(rng: &mut Rng) -> Input {
+    let made = a_table(rng);
+    let changes = vec![gen::one_change(rng, &made.table)];
+    let mut lengths = lengths(rng);
+    if rng.one_in(20) {
+        let i = rng.below(4);
+        lengths[i] = NEEDED[i] - 1;
+    }
+    // The change must lie in the slices: they are cut only at their end.
+    Input::Memory { base: gen::text_of(rng, &made), changes, lengths, act: Act::Check { known: None } }
+}
+
+/// A changed table in the fixed form, or a form in disorder.
+fn broken(rng: &mut Rng, made: &Made) -> Vec<Change> {
+    if rng.one_in(4) {
+        gen::disorder(rng, &made.table)
+    } else {
+        let other = gen::break_table(rng, &made.table);
+        gen::changes_between(&oracle::form(&made.table), &oracle::form(&other))
+    }
+}
+
+fn check_broken(rng: &mut Rng) -> Input {
+    let made = a_table(rng);
+    let changes = broken(rng, &made);
+    Input::Memory { base: gen::text_of(rng, &made), changes, lengths: lengths(rng), act: Act::Check { known: None } }
+}
+
+fn check_random(rng: &mut Rng) -> Input {
+    let changes = gen::scatter(rng);
+    Input::Memory { base: Vec::new(), changes, lengths: lengths(rng), act: Act::Check { known: None } }
+}
+
+/// Every space from 0 to enough for short inputs, else a few.
+fn spaces(rng: &mut Rng, enough: usize) -> Vec<usize> {
+    if enough <= 30 {
+        (0..=enough + 2).collect()
+    } else {
+        vec![0, rng.below(enough), rng.below(enough), enough - 1, enough, enough + 5]
+    }
+}
+
+/// A string of characters that `|0` lines map, with the bytes it maps to.
+fn pipe_known(rng: &mut Rng) -> Input {
+    let made = loop {
+        let made = a_table(rng);
+        if made.table.lines.iter().any(|l| l.kind == Kind::Both) {
+            break made;
+        }
+    };
+    let both: Vec<_> = made.table.lines.iter().filter(|l| l.kind == Kind::Both).collect();
+    let most = *rng.pick(&[4, 60, 600]);
+    let mut string = String::new();
+    let mut codes = Vec::new();
+    for _ in 0..rng.below(most + 1) {
+        let line = *rng.pick(&both);
+        string.push(char::from_u32(line.cp).expect("T6"));
+        codes.extend(&line.code);
+    }
+    let chars = string.into_bytes();
+    let substitute = rng.one_in(2);
+    let act = if rng.one_in(2) {
+        let spaces = spaces(rng, chars.len());
+        Act::To { input: codes, spaces, substitute, known: Some(chars) }
+    } else {
+        let spaces = spaces(rng, codes.len());
+        let fallback = rng.one_in(2);
+        Act::From { input: chars, spaces, fallback, substitute, known: Some(codes) }
+    };
+    Input::Memory { base: gen::text_of(rng, &made), changes: Vec::new(), lengths: lengths(rng), act }
+}
+
+fn to_act(rng: &mut Rng, t: &Table) -> Act {
+    let items = *rng.pick(&[3, 8, 60]);
+    let input = gen::random_frame(rng, t, items);
+    let substitute = rng.one_in(2);
+    let mut output = vec![0; 4 * input.len()];
+    let enough = oracle::to_utf8(t, &input, &mut output, substitute).written as usize;
+    let spaces = spaces(rng, enough);
+    Act::To { input, spaces, substitute, known: None }
+}
+
+fn from_act(rng: &mut Rng, t: &Table) -> Act {
+    let items = *rng.pick(&[3, 8, 60]);
+    let input = gen::random_utf8(rng, t, items);
+    let (fallback, substitute) = (rng.one_in(2), rng.one_in(2));
+    let mut output = vec![0; 4 * input.len()];
+    let enough = oracle::from_utf8(t, &input, &mut output, fallback, substitute).written as usize;
+    let spaces = spaces(rng, enough);
+    Act::From { input, spaces, fallback, substitute, known: None }
+}
+
+fn to_random(rng: &mut Rng) -> Input {
+    let made = a_table(rng);
+    let act = to_act(rng, &made.table);
+    Input::Memory { base: gen::text_of(rng, &made), changes: Vec::new(), lengths: lengths(rng), act }
+}
+
+fn from_random(rng: &mut Rng) -> Input {
+    let made = a_table(rng);
+    let act = from_act(rng, &made.table);
+    Input::Memory { base: gen::text_of(rng, &made), changes: Vec::new(), lengths: lengths(rng), act }
+}
+
+fn audit_act(rng: &mut Rng, t: &Table) -> Act {
+    let pieces = (0..rng.range(1, 5))
+        .map(|_| {
+            let allowance = match rng.below(5) {
+                0 => rng.below(3) as u64,
+                4 => 2_000,
+                _ => rng.below(80) as u64,
+            };
+            let space = match rng.below(4) {
+                0 => rng.below(3),
+                1 => 500,
+                _ => rng.below(40),
+            };
+            (allowance, space)
+        })
+        .collect();
+    let position = gen::random_position(rng, t);
+    Act::Audit { fallback: rng.one_in(2), position, pieces, whole: false }
+}
+
+fn audit_random(rng: &mut Rng) -> Input {
+    let made = a_table(rng);
+    let act = audit_act(rng, &made.table);
+    Input::Memory { base: gen::text_of(rng, &made), changes: Vec::new(), lengths: lengths(rng), act }
+}
+
+fn act_changed(rng: &mut Rng) -> Input {
+    let made = a_table(rng);
+    let changes = if rng.one_in(2) { vec![gen::one_change(rng, &made.table)] } else { broken(rng, &made) };
+    let mut act = match rng.below(3) {
+        0 => to_act(rng, &made.table),
+        1 => from_act(rng, &made.table),
+        _ => audit_act(rng, &made.table),
+    };
+    if let Act::To { spaces, .. } | Act::From { spaces, .. } = &mut act {
+        spaces.truncate(6);
+        spaces.push(300);
+    }
+    Input::Memory { base: gen::text_of(rng, &made), changes, lengths: lengths(rng), act }
+}
+
+fn audit_pieces(rng: &mut Rng) -> Input {
+    loop {
+        let made = gen::random_table(rng, 60);
+        let Some(codes) = oracle::all_codes(&made.table, 60) else { continue };
+        // Pieces of any size, one with neither allowance nor space at times,
+        // and enough of them to finish, mostly.
+        let mut left = codes.len() as i64;
+        let mut pieces = Vec::new();
+        let step = *rng.pick(&[3, 40, 1000]);
+        while left > 0 && pieces.len() < 60 {
+            let allowance = rng.below(step);
+            let space = rng.below(step);
+            pieces.push((allowance as u64, space));
+            left -= allowance as i64;
+        }
+        if !rng.one_in(4) {
+            pieces.push((u64::MAX, codes.len()));
+        }
+        let act = Act::Audit { fallback: rng.one_in(2), position: (0, 0), pieces, whole: true };
+        let base = gen::text_of(rng, &made);
+        return Input::Memory { base, changes: Vec::new(), lengths: lengths(rng), act };
+    }
+}
+
+// ---------------------------------------------------------------------------
+// Shrinking and printing
+// ---------------------------------------------------------------------------
+
+/// Smaller inputs of the same kind; what was known by construction is dropped.
+fn smaller(input: &Input) -> Vec<Input> {
+    let mut out = Vec::new();
+    match input {
+        Input::Load { text, lengths, .. } => {
+            for text in smaller_text(text) {
+                out.push(Input::Load { text, lengths: *lengths, known: Known::Nothing });
+            }
+            if *lengths != NEEDED {
+                out.push(Input::Load { text: text.clone(), lengths: NEEDED, known: Known::Nothing });
+            }
+        }
+        Input::Memory { base, changes, lengths, act } => {
+            let with = |base: &[u8], changes: &[Change], lengths: Lengths, act: Act| Input::Memory {
+                base: base.to_vec(),
+                changes: changes.to_vec(),
+                lengths,
+                act,
+            };
+            if *lengths != NEEDED {
+                out.push(with(base, changes, NEEDED, act.clone()));
+            }
+            for changes in fewer(changes) {
+                out.push(with(base, &changes, *lengths, act.clone()));
+            }
+            for act in smaller_act(act) {
+                out.push(with(base, changes, *lengths, act));
+            }
+            for base in smaller_text(base) {
+                out.push(with(&base, changes, *lengths, act.clone()));
+            }
+        }
+    }
+    out
+}
+
+/// The list without a half, a quarter, ... a single element.
+fn fewer<T: Clone>(list: &[T]) -> Vec<Vec<T>> {
+    let mut out = Vec::new();
+    let mut part = list.len().div_ceil(2);
+    while part > 0 {
+        let mut at = 0;
+        while at < list.len() {
+            let end = (at + part).min(list.len());
+            out.push([&list[..at], &list[end..]].concat());
+            at = end;
+            if out.len() > 400 {
+                return out;
+            }
+        }
+        part /= 2;
+    }
+    out
+}
+
+fn smaller_text(text: &[u8]) -> Vec<Vec<u8>> {
+    let lines: Vec<&[u8]> = text.split_inclusive(|&b| b == b'\n').collect();
+    let mut out: Vec<Vec<u8>> = fewer(&lines).into_iter().map(|l| l.concat()).collect();
+    // Comments and blanks inside a line, then single bytes of short texts.
+    if text.len() <= 2_000 {
+        for i in 0..text.len() {
+            let mut t = text.to_vec();
+            t.remove(i);
+            out.push(t);
+        }
+    }
+    out
+}
+
+fn smaller_act(act: &Act) -> Vec<Act> {
+    let mut out = Vec::new();
+    match act {
+        Act::Check { known } => {
+            if known.is_some() {
+                out.push(Act::Check { known: None });
+            }
+        }
+        Act::To { input, spaces, substitute, .. } => {
+            let with =
+                |input: Vec<u8>, spaces: Vec<usize>| Act::To { input, spaces, substitute: *substitute, known: None };
+            for i in fewer(input) {
+                out.push(with(i, spaces.clone()));
+            }
+            if spaces.len() > 1 {
+                out.extend(spaces.iter().map(|&s| with(input.clone(), vec![s])));
+            }
+        }
+        Act::From { input, spaces, fallback, substitute, .. } => {
+            let with = |input: Vec<u8>, spaces: Vec<usize>| Act::From {
+                input,
+                spaces,
+                fallback: *fallback,
+                substitute: *substitute,
+                known: None,
+            };
+            for i in fewer(input) {
+                out.push(with(i, spaces.clone()));
+            }
+            if spaces.len() > 1 {
+                out.extend(spaces.iter().map(|&s| with(input.clone(), vec![s])));
+            }
+        }
+        Act::Audit { fallback, position, pieces, .. } => {
+            for pieces in fewer(pieces) {
+                out.push(Act::Audit { fallback: *fallback, position: *position, pieces, whole: false });
+            }
+        }
+    }
+    out
+}
+
+/// Makes a failing input smaller while it goes on failing.
+pub fn shrink(input: &Input, fails: &mut dyn FnMut(&Input) -> bool) -> Input {
+    let mut best = input.clone();
+    let start = Instant::now();
+    'again: loop {
+        for candidate in smaller(&best) {
+            if start.elapsed() > Duration::from_secs(10) {
+                return best;
+            }
+            if fails(&candidate) {
+                best = candidate;
+                continue 'again;
+            }
+        }
+        return best;
+    }
+}
+
+fn show_text(text: &[u8]) -> String {
+    let mut out = String::new();
+    for line in text.split_inclusive(|&b| b == b'\n') {
+        out += &format!("    b\"{}\"\n", line.escape_ascii());
+        if out.len() > 6_000 {
+            out += &format!("    ... ({} bytes in all)\n", text.len());
+            break;
+        }
+    }
+    out
+}
+
+fn show_hex(bytes: &[u8]) -> String {
+    if bytes.is_empty() {
+        return "-".into();
+    }
+    bytes.iter().map(|b| format!("{b:02X}")).collect()
+}
+
+pub fn show(input: &Input) -> String {
+    match input {
+        Input::Load { text, lengths, .. } => {
+            format!("  load, slices of {lengths:?} places, text of {} bytes:\n{}", text.len(), show_text(text))
+        }
+        Input::Memory { base, changes, lengths, act } => {
+            let mut out = format!("  the form of this text (zeros if refused), slices of {lengths:?} places:\n");
+            out += &show_text(base);
+            for change in changes.iter().take(40) {
+                out += &format!("    then {change:x?}\n");
+            }
+            if changes.len() > 40 {
+                out += &format!("    ... ({} changes in all)\n", changes.len());
+            }
+            out += &match act {
+                Act::Check { .. } => "  check\n".to_string(),
+                Act::To { input, spaces, substitute, .. } => {
+                    format!("  to UTF-8, substitute {substitute}, spaces {spaces:?}, input {}\n", show_hex(input))
+                }
+                Act::From { input, spaces, fallback, substitute, .. } => format!(
+                    "  from UTF-8, fallback {fallback}, substitute {substitute}, spaces {spaces:?}, input {}\n",
+                    show_hex(input)
+                ),
+                Act::Audit { fallback, position, pieces, .. } => format!(
+                    "  audit, fallback {fallback}, position {:08X} length {}, (allowance, space) {pieces:?}\n",
+                    position.0, position.1
+                ),
+            };
+            out
+        }
+    }
+}
