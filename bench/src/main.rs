@@ -353,6 +353,40 @@ fn main() {
             black_box(plain.audit(false, &mut list.borrow_mut()));
         })],
     );
+    deep_walks();
+}
+
+/// Walks that have no peer: four bytes deep, with ways that end nowhere and with
+/// every way ending in a code.
+fn deep_walks() {
+    let head = "<code_set_name> \"deep\"\n<mb_cur_min> 1\n<mb_cur_max> 4\n<uconv_class> \"MBCS\"\n";
+    let rows = "<subchar> \\xFF\n<icu:state> 0-fe:1, ff\n<icu:state> 0-ff:2\n<icu:state> 0-ff:3\n<icu:state>\n";
+    let mut lent = Lent::new();
+    let dead = format!("{head}{rows}CHARMAP\nEND CHARMAP\n");
+    assert_eq!(lent.load(dead.as_bytes()), 0, "the library accepts four rows of dead ends");
+    let mut entries = vec![0u64; 1_000_000];
+    let mut position = (0, 0);
+    let start = Instant::now();
+    let answer = lent.audit(&mut position, 1_000_000, &mut entries);
+    let spent = start.elapsed();
+    assert_eq!(answer, (1, 1, true), "one code, FF, and no other");
+    println!("audit of one code behind four thousand million dead ends, one call: {:.1} us", spent.as_secs_f64() * 1e6);
+
+    let rows = "<subchar> \\x00\\x00\\x00\\x00\n<icu:state> 0-ff:1\n<icu:state> 0-ff:2\n<icu:state> 0-ff:3\n<icu:state> 0-ff\n";
+    let full = format!("{head}{rows}CHARMAP\nEND CHARMAP\n");
+    assert_eq!(lent.load(full.as_bytes()), 0, "the library accepts four full rows");
+    for first in [0u32, 0x40, 0x80, 0xC0, 0xFE] {
+        let mut position = if first == 0 { (0, 0) } else { (first << 24, 4) };
+        let start = Instant::now();
+        let (listed, looked, finished) = lent.audit(&mut position, 1_000_000, &mut entries);
+        let spent = start.elapsed().as_secs_f64();
+        assert_eq!((listed, looked, finished), (1_000_000, 1_000_000, false), "every code is listed");
+        println!(
+            "audit of 4,294,967,296 codes, a call of 1,000,000 from {first:02X} on: {:.1} ms, {:.1} million codes a second",
+            spent * 1e3,
+            looked as f64 / spent / 1e6
+        );
+    }
 }
 
 /// The plain test of record and memory. The way `sorted, tested` runs it before
