@@ -27,7 +27,7 @@ use Rattle.table.proofs.load.run.Tie as tie
 record Going (text states₀ codes₀ infos₀ order₀ states codes infos order : List ℕ) (at k : ℕ) (p : Progress) : Type 0 where
   rows : List (List ℕ)
   lines : List Line
-  todo : loadOf limits text ≡ loadGo lowest limits k (linesOf (drop at text)) (went (reading (p .phase) (p .head) rows lines))
+  pending : loadOf limits text ≡ loadGo lowest limits k (linesOf (drop at text)) (went (reading (p .phase) (p .head) rows lines))
   holding : Holding limits (p .head) (p .mappings) rows lines states codes infos order
   none-yet-read : p .phase ≡ Header → [] ≡ lines
   beyond : Beyond limits states₀ codes₀ infos₀ order₀ states codes infos order
@@ -62,7 +62,7 @@ loop-holds c =
     record {
       rows = [];
       lines = [];
-      todo = refl;
+      pending = refl;
       holding = c .before .before .before .before .before .pre .2;
       none-yet-read = λ e. refl;
       beyond = record { states-rest = refl; codes-rest = refl; infos-rest = refl; order-rest = refl };
@@ -127,7 +127,7 @@ returns c =
     let t : Step = phaseStep lowest limits (l .p .phase) (l .p .head) (i .rows) (i .lines) (take (e .result .stop - l .at) (drop (l .at) (a .text .now))) in
     let q : t ≡ stop x = taken-stop limits t (w .result) x _ _ _ _ (w .ensures .0 (i .rows) (i .lines) (i .holding)) (c .before .before .before .before .before .before .before .before .before .before .before .before .before .before .before .w .given .1) in
     let r : loadOf limits (a .text .now) ≡ refused x (l .k + 1) =
-    i .todo
+    i .pending
     ∙ run-step limits (a .text .now) (l .at) (e .result .stop) (e .result .next) (l .k) _ (c .before .before .before .before .before .before .before .before .before .before .before .before .before .before .before .before .before .before .before .before .before .before .before .before .before .before .before .before .before .before .before .before .loop-test .taken) (e .ensures .0) (e .ensures .1)
     ∙ ap (loadGo lowest limits (l .k + 1) (linesOf (drop (e .result .next) (a .text .now)))) q
     ∙ stop-outcome lowest limits (l .k + 1) _ x in
@@ -159,8 +159,8 @@ loop-again c =
     record {
       rows = g .rows;
       lines = g .lines;
-      todo =
-          i .todo
+      pending =
+          i .pending
           ∙ run-step limits (a .text .now) (l .at) (e .result .stop) (e .result .next) (l .k) _ (c .before .before .before .before .before .before .before .before .before .before .before .before .before .before .before .before .before .before .loop-test .taken) (e .ensures .0) (e .ensures .1)
           ∙ ap (loadGo lowest limits (l .k + 1) (linesOf (drop (e .result .next) (a .text .now)))) (g .step-is);
       holding = g .holding;
@@ -208,7 +208,7 @@ returns-2 c =
     let l = c .before .before .before .before .before .before .before .before .before .before .before .before .before .before .before .before .loop in
     let i = l .inv in
     let a = c .before .before .before .before .before .before .before .before .before .before .before .before .before .before .before .before .before .before .before .before .before .before .args in
-    let r : loadOf limits (a .text .now) ≡ refused NoEnd (l .k + 1) = i .todo ∙ run-end limits (a .text .now) (l .at) (l .k) _ (c .before .before .before .before .before .before .before .before .before .before .before .before .before .before .before .loop-test .left) ∙ not-ended (l .k) _ (l .p .phase) (c .before .before .before .before .before .before .before .before .before .before .before .before .before .before .match2 .keys2) in
+    let r : loadOf limits (a .text .now) ≡ refused NoEnd (l .k + 1) = i .pending ∙ run-end limits (a .text .now) (l .at) (l .k) _ (c .before .before .before .before .before .before .before .before .before .before .before .before .before .before .before .loop-test .left) ∙ not-ended (l .k) _ (l .p .phase) (c .before .before .before .before .before .before .before .before .before .before .before .before .before .before .match2 .keys2) in
     let z = c .before .before .before .before .before .before .before .before .before .wipe2 .ensures in (
       c .refuse2 .ensures ∙ sym (ap loadedAs r),
       refused-left 4096 statesOf _ NoEnd (l .k + 1) (a .states .now) (l .states) _ r (z .0) (i .beyond .states-rest),
@@ -238,7 +238,7 @@ returns-3 c =
     let h = i .holding in
     let m = h .stored in
     let r : loadOf limits (a .text .now) ≡ accepted (tableOf (reading (l .p .phase) (l .p .head) (i .rows) (i .lines))) =
-    i .todo ∙ run-end limits (a .text .now) (l .at) (l .k) _ (c .before .before .before .before .loop-test .left) ∙ ended (l .k) _ (l .p .phase) (c .before .before .enum-told .given .1) in
+    i .pending ∙ run-end limits (a .text .now) (l .at) (l .k) _ (c .before .before .before .before .loop-test .left) ∙ ended (l .k) _ (l .p .phase) (c .before .before .enum-told .given .1) in
     let n = record-left (a .text .now) (l .p .phase) (l .p .head) (l .p .mappings) (i .rows) (i .lines) _ _ _ _ h r in (
       accepted-as _ _ _ r n,
       accepted-left 4096 statesOf _ _ (a .states .now) (l .states) r (h .states-are) (i .beyond .states-rest),

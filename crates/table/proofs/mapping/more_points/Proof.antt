@@ -20,7 +20,7 @@ use Rattle.table.proofs.text.unicode.Reads as unicode-reads
 
 record Going (s : List ℕ) (at several i : ℕ) : Type 0 where
   fuel : ℕ
-  todo : pointsMore (length s) s 0 at (unicodeAt s (joinAt s at)) ≡ pointsMore fuel s several i (unicodeAt s (joinAt s i))
+  pending : pointsMore (length s) s 0 at (unicodeAt s (joinAt s at)) ≡ pointsMore fuel s several i (unicodeAt s (joinAt s i))
   enough : length s ≤ fuel + i
   from : at ≤ i
   inside : i ≤ length s
@@ -33,7 +33,7 @@ abbrev μ-loop : tie.MeasureT-loop
 μ-loop s at i₀ several₀ i several = length s - i
 
 loop-holds : tie.Need-loop-holds Inv-loop μ-loop
-loop-holds c = record { fuel = length (c .before .args .s .now); todo = refl; enough = omega arith; from = omega arith; inside = omega arith; one = omega arith }
+loop-holds c = record { fuel = length (c .before .args .s .now); pending = refl; enough = omega arith; from = omega arith; inside = omega arith; one = omega arith }
 
 skip-requires : tie.Need-skip-requires Inv-loop μ-loop
 skip-requires c κs = search needs
@@ -55,7 +55,7 @@ unfolding Keeps
 returns c =
     let h : plusAt (c .before .before .before .before .before .before .before .before .before .args .s .now) (c .before .before .before .before .before .before .before .loop .i) ≡ true = rw (c .before .before .before .before .before .before .skip .ensures .0) at (sym (c .before .before .before .before .before .plus .ensures) ∙ c .if1 .taken) in (
       rw (
-        c .before .before .before .before .before .before .before .loop .inv .todo,
+        c .before .before .before .before .before .before .before .loop .inv .pending,
         ← c .before .before .before .before .join .ensures .0,
         ← c .before .before .before .unicode .ensures .0,
         c .before .enum-told .given .1,
@@ -69,7 +69,7 @@ returns-2 c =
     let h : plusAt (c .before .before .before .before .before .before .before .before .before .args .s .now) (c .before .before .before .before .before .before .before .loop .i) ≡ false = rw (c .before .before .before .before .before .before .skip .ensures .0) at (sym (c .before .before .before .before .before .plus .ensures) ∙ c .if1 .left) in
     let l = c .before .before .before .before .before .before .before .loop .inv in (
       rw (
-        c .before .before .before .before .before .before .before .loop .inv .todo,
+        c .before .before .before .before .before .before .before .loop .inv .pending,
         ← c .before .before .before .before .join .ensures .0,
         ← c .before .before .before .unicode .ensures .0,
         c .before .enum-told .given .1,
@@ -102,8 +102,8 @@ loop-again c =
     ) at (unicode-forth s (c .before .before .before .before .join .result)) in
     record {
       fuel = l .fuel - 1;
-      todo = rw (
-        l .todo,
+      pending = rw (
+        l .pending,
         ← c .before .before .before .before .join .ensures .0,
         ← c .before .before .before .unicode .ensures .0,
         c .before .n .given .1,
