@@ -1,17 +1,16 @@
-//! Links the static library `cabi`. Its folder is taken from OBOEPOND_LIB, else
-//! it is ../target/staticlib beside this crate.
+//! Links the static library `cabi`, for the tests and for `bench/`. Its folder
+//! is taken from OBOEPOND_LIB, else it is ../target/staticlib beside the crate.
 
 use std::path::PathBuf;
 
 fn main() {
-    println!("cargo:rerun-if-changed=build.rs");
     println!("cargo:rerun-if-env-changed=OBOEPOND_LIB");
     if std::env::var_os("CARGO_FEATURE_ORACLE_ONLY").is_some() {
         return;
     }
     let here = PathBuf::from(std::env::var_os("CARGO_MANIFEST_DIR").expect("cargo sets it"));
     let folder = match std::env::var_os("OBOEPOND_LIB") {
-        // A relative folder is taken from this crate.
+        // A relative folder is taken from the crate.
         Some(folder) => here.join(folder),
         None => here.join("../target/staticlib"),
     };
@@ -19,7 +18,7 @@ fn main() {
     if !library.exists() {
         panic!(
             "no {}: set OBOEPOND_LIB to the folder of libcabi.a, \
-             or build with --features oracle-only",
+             or build the tests with --features oracle-only",
             library.display()
         );
     }

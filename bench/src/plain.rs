@@ -16,8 +16,17 @@ pub enum Search {
     Hashed,
 }
 
+impl Search {
+    pub fn name(self) -> &'static str {
+        match self {
+            Search::Sorted => "plain, sorted arrays",
+            Search::Hashed => "plain, hash maps",
+        }
+    }
+}
+
 pub struct Plain {
-    search: Search,
+    pub search: Search,
     pub rows: Vec<[u16; 256]>,
     pub mappings: usize,
     subchar: Vec<u8>,

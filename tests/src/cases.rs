@@ -67,20 +67,20 @@ fn joined(lines: &[Bytes]) -> Bytes {
 }
 
 /// K with line n (from 1) replaced.
-fn k_line(n: usize, line: impl AsRef<[u8]>) -> Bytes {
+pub fn k_line(n: usize, line: impl AsRef<[u8]>) -> Bytes {
     let mut lines = k_lines();
     lines[n - 1] = line.as_ref().to_vec();
     joined(&lines)
 }
 
 /// K with a line put in so that it is line n.
-fn k_insert(n: usize, line: impl AsRef<[u8]>) -> Bytes {
+pub fn k_insert(n: usize, line: impl AsRef<[u8]>) -> Bytes {
     let mut lines = k_lines();
     lines.insert(n - 1, line.as_ref().to_vec());
     joined(&lines)
 }
 
-fn k_delete(n: usize) -> Bytes {
+pub fn k_delete(n: usize) -> Bytes {
     let mut lines = k_lines();
     lines.remove(n - 1);
     joined(&lines)
@@ -96,7 +96,7 @@ fn k_change(changes: &[(usize, &str)]) -> Bytes {
 }
 
 /// A text from its parts: header values, rows, mapping lines.
-fn text(min: u32, max: u32, class: &str, subchar: &str, rows: &[&str], lines: &[&str]) -> Bytes {
+pub fn text(min: u32, max: u32, class: &str, subchar: &str, rows: &[&str], lines: &[&str]) -> Bytes {
     let mut t = format!(
         "<code_set_name> \"t\"\n<mb_cur_min> {min}\n<mb_cur_max> {max}\n\
          <uconv_class> \"{class}\"\n{subchar}\n"
@@ -112,7 +112,7 @@ fn text(min: u32, max: u32, class: &str, subchar: &str, rows: &[&str], lines: &[
     t.into_bytes()
 }
 
-fn mbcs(max: u32, subchar: &str, rows: &[&str], lines: &[&str]) -> Bytes {
+pub fn mbcs(max: u32, subchar: &str, rows: &[&str], lines: &[&str]) -> Bytes {
     text(1, max, "MBCS", &format!("<subchar> {subchar}"), rows, lines)
 }
 
@@ -130,13 +130,13 @@ fn many(n: usize) -> Bytes {
     mbcs(2, "\\x01\\x01", &["0-ff:1", "0-ff"], &lines)
 }
 
-fn with_cr_lf(text: &[u8]) -> Bytes {
+pub fn with_cr_lf(text: &[u8]) -> Bytes {
     text.iter().flat_map(|&b| if b == b'\n' { vec![b'\r', b'\n'] } else { vec![b] }).collect()
 }
 
 /// Blanks around every line, a comment behind it, a comment line and a blank
 /// line before it: line n becomes line 3n.
-fn dressed(text: &[u8]) -> Bytes {
+pub fn dressed(text: &[u8]) -> Bytes {
     let mut out = Vec::new();
     for line in text.split_inclusive(|&b| b == b'\n') {
         let line = line.strip_suffix(b"\n").unwrap_or(line);

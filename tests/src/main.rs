@@ -1,21 +1,33 @@
 //! The outside tests: hand-written cases and random ones, on the oracle and on
-//! the library. OBOEPOND_CASES="seed:count" sets seed and number of random
-//! cases; case n of a run with seed s is case 0 of a run with seed s + n.
-//! OBOEPOND_TRACE=1 names every random case before it runs.
+//! the library, on the stand-in and on the program. OBOEPOND_CASES="seed:count"
+//! sets seed and number of random cases; case n of a run with seed s is case 0
+//! of a run with seed s + n. OBOEPOND_TRACE=1 names every random case before it
+//! runs. Arguments: none, everything; `program`, the program's tests alone;
+//! `stand-in`, run in the program's place; `season N`, a long run of the
+//! program with N MB of each kind of lines.
 
 #[cfg(not(feature = "oracle-only"))]
 mod abi;
 #[rustfmt::skip]
 mod cases;
 mod gen;
+#[cfg(not(feature = "oracle-only"))]
+mod library;
+mod memory;
 mod oracle;
+mod program;
+mod program_cases;
+mod program_random;
+mod program_runs;
 mod random;
 #[cfg(not(feature = "oracle-only"))]
 mod raw;
+mod season;
 mod subject;
 #[cfg(not(feature = "oracle-only"))]
 mod sys;
 
+use program_runs::{Binary, Program, StandIn};
 use random::{Group, Reached, GROUPS, TO_REACH};
 use std::any::Any;
 use std::io::Write;
@@ -26,6 +38,8 @@ use std::time::{Duration, Instant};
 use subject::{Oracle, Subject};
 
 const DEFAULT_CASES: (u64, u64) = (1, 40_000);
+/// Runs of the program among the random cases, in thousandths.
+const PROGRAM_SHARE: u64 = 10;
 /// Failures printed in one group of cases.
 const MOST_PRINTED: usize = 12;
 
@@ -200,6 +214,50 @@ fn random_groups(s: &dyn Subject, compare: bool, seed: u64, count: u64, tally: &
     }
 }
 
+fn program_cases(p: &dyn Program, tally: &mut Tally) {
+    let start = Instant::now();
+    tally.here = 0;
+    let list = program_cases::all();
+    for case in &list {
+        begin(format!("[{}] {}", p.name(), case.name));
+        tally.count(p.name(), &case.name, guarded(|| case.run(p)));
+    }
+    println!("[{}] {} hand-written cases, {:.1} s", p.name(), list.len(), start.elapsed().as_secs_f64());
+}
+
+/// The program against the stand-in; the first failing case is made smaller.
+fn program_random(p: &dyn Program, seed: u64, count: u64) -> Result<(), String> {
+    let trace = std::env::var_os("OBOEPOND_TRACE").is_some();
+    for i in 0..count {
+        let label = format!("[{}] random lines, OBOEPOND_CASES=\"{}:1\"", p.name(), seed.wrapping_add(i));
+        if trace {
+            println!("{label}");
+        }
+        begin(label.clone());
+        let case = program_random::make(&mut case_rng(seed, i, "program"));
+        let Err(why) = guarded(|| program_random::run(p, &case)) else { continue };
+        let mut fails = |candidate: &program_random::Input| {
+            begin(label.clone());
+            guarded(|| program_random::run(p, candidate)).is_err()
+        };
+        let small = program_random::shrink(&case, &mut fails);
+        let small_why = guarded(|| program_random::run(p, &small)).err().unwrap_or(why);
+        return Err(format!("{small_why}\n  first at {label}\n{}", program_random::show(&small)));
+    }
+    Ok(())
+}
+
+fn program_tests(seed: u64, count: u64, tally: &mut Tally) {
+    let program = Binary::new();
+    program_cases(&program, tally);
+    let start = Instant::now();
+    tally.here = 0;
+    let n = (count * PROGRAM_SHARE / 1000).max(1);
+    let outcome = program_random(&program, seed, n);
+    println!("[program] random tables and lines: {n} cases, {:.1} s", start.elapsed().as_secs_f64());
+    tally.count(program.name(), "random tables and lines", outcome);
+}
+
 fn settings() -> (u64, u64) {
     let Ok(text) = std::env::var("OBOEPOND_CASES") else { return DEFAULT_CASES };
     let parsed = text.split_once(':').and_then(|(s, c)| Some((s.trim().parse().ok()?, c.trim().parse().ok()?)));
@@ -210,28 +268,54 @@ fn settings() -> (u64, u64) {
 }
 
 fn main() {
+    let arguments: Vec<String> = std::env::args().skip(1).collect();
+    let arguments: Vec<&str> = arguments.iter().map(|a| a.as_str()).collect();
+    match arguments[..] {
+        [] => all_tests(false),
+        ["program"] => all_tests(true),
+        ["stand-in"] => program::stand_in().expect("standard input and output"),
+        ["season", mb] => {
+            let right = mb.parse().is_ok_and(season::run);
+            std::process::exit(if right { 0 } else { 1 });
+        }
+        _ => {
+            println!("arguments: none, `program`, `stand-in` or `season N`");
+            std::process::exit(2);
+        }
+    }
+}
+
+fn all_tests(program_alone: bool) -> ! {
     let (seed, count) = settings();
     println!("OBOEPOND_CASES=\"{seed}:{count}\"");
     watch();
     let mut tally = Tally::default();
+    if !program_alone {
+        library_tests(seed, count, &mut tally);
+    }
+    program_cases(&StandIn, &mut tally);
+    if program_alone || !cfg!(feature = "oracle-only") {
+        program_tests(seed, count, &mut tally);
+    }
+    finish()
+}
 
-    hand_written(&Oracle, &mut tally);
-    random_groups(&Oracle, false, seed, count, &mut tally);
+fn library_tests(seed: u64, count: u64, tally: &mut Tally) {
+    hand_written(&Oracle, tally);
+    random_groups(&Oracle, false, seed, count, tally);
 
     #[cfg(not(feature = "oracle-only"))]
     {
-        let library = sys::Library;
-        hand_written(&library, &mut tally);
+        let library = library::Library;
+        hand_written(&library, tally);
         tally.here = 0;
         for (name, run) in abi::CASES {
             begin(*name);
             tally.count(library.name(), name, guarded(run));
         }
         println!("[library] {} cases of the C calls", abi::CASES.len());
-        random_groups(&library, true, seed, count, &mut tally);
+        random_groups(&library, true, seed, count, tally);
     }
     #[cfg(feature = "oracle-only")]
     println!("the library is not linked: the oracle alone was run");
-
-    finish();
 }

@@ -6,6 +6,7 @@
 //! both pipes and the audit are functions of that meaning. `form` turns a
 //! meaning into the fixed numbers of record and memory, `meaning_of` goes back.
 
+pub use crate::memory::Memory;
 use std::cmp::Ordering;
 use std::collections::{HashMap, HashSet};
 
@@ -745,15 +746,6 @@ pub fn keeps_all(t: &Table) -> bool {
 /// subchar1 (0 none, else 1 + byte).
 pub type Record = [u32; 7];
 
-/// The lent memory, of any lengths.
-#[derive(Clone, PartialEq, Eq, Debug, Default)]
-pub struct Memory {
-    pub states: Vec<u16>,
-    pub codes: Vec<u32>,
-    pub infos: Vec<u32>,
-    pub order: Vec<u32>,
-}
-
 impl Memory {
     /// Exactly the needed places, all zero.
     pub fn zeros() -> Memory {
@@ -1102,7 +1094,11 @@ fn pipe(input: &[u8], output: &mut [u8], one: impl Fn(&[u8]) -> Result<(usize, V
 }
 
 pub fn to_utf8(t: &Table, input: &[u8], output: &mut [u8], substitute: bool) -> Piped {
-    let lines = Lines::of(t);
+    to_utf8_by(t, &Lines::of(t), input, output, substitute)
+}
+
+/// The same with the table's lines at hand, for many frames.
+pub fn to_utf8_by(t: &Table, lines: &Lines, input: &[u8], output: &mut [u8], substitute: bool) -> Piped {
     pipe(input, output, |rest| match cut_code(&t.rows, rest) {
         Sequence::CutShort => Err(51),
         Sequence::Illegal => Err(52),

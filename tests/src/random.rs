@@ -653,7 +653,7 @@ fn smaller(input: &Input) -> Vec<Input> {
 }
 
 /// The list without a half, a quarter, ... a single element.
-fn fewer<T: Clone>(list: &[T]) -> Vec<Vec<T>> {
+pub fn fewer<T: Clone>(list: &[T]) -> Vec<Vec<T>> {
     let mut out = Vec::new();
     let mut part = list.len().div_ceil(2);
     while part > 0 {
@@ -671,7 +671,7 @@ fn fewer<T: Clone>(list: &[T]) -> Vec<Vec<T>> {
     out
 }
 
-fn smaller_text(text: &[u8]) -> Vec<Vec<u8>> {
+pub fn smaller_text(text: &[u8]) -> Vec<Vec<u8>> {
     let lines: Vec<&[u8]> = text.split_inclusive(|&b| b == b'\n').collect();
     let mut out: Vec<Vec<u8>> = fewer(&lines).into_iter().map(|l| l.concat()).collect();
     // Comments and blanks inside a line, then single bytes of short texts.
@@ -745,7 +745,7 @@ pub fn shrink(input: &Input, fails: &mut dyn FnMut(&Input) -> bool) -> Input {
     }
 }
 
-fn show_text(text: &[u8]) -> String {
+pub fn show_text(text: &[u8]) -> String {
     let mut out = String::new();
     for line in text.split_inclusive(|&b| b == b'\n') {
         out += &format!("    b\"{}\"\n", line.escape_ascii());

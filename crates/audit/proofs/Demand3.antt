@@ -13,7 +13,7 @@ use Rattle.lists.specs.Paging.{Page, toldBy, Call, left, upTo as upToIn, pageFr
 use Rattle.lists.proofs.Laws.{clash, both, both-right}
 use Rattle.lists.proofs.Cases.{pick-yes, pick-no}
 use Rattle.lists.proofs.Order.{all-map, all-both, all-in, all-of, map-all}
-use Rattle.lists.proofs.Paging.{Place, done, paged, joined-told, summed-told, last-told, finished-told, moves-told, each-told, last-of}
+use Rattle.lists.proofs.Paging.{Place, place-kept, paged, joined-told, summed-told, last-told, finished-told, moves-told, each-told, last-of}
 use Rattle.table.specs.Limits.{limits}
 use Rattle.table.specs.States.{endKind, isCode}
 use Rattle.table.specs.Codes.{after, upTo, countBetween, packed, codeOf, bytesOf, AllByte}
@@ -21,7 +21,7 @@ use Rattle.table.specs.Meaning.{Table, flat, stepsOf}
 use Rattle.table.specs.Rules.{Keeps}
 use Rattle.table.specs.Entry.{padded}
 use Rattle.table.specs.Memory.{recordOf, Form, Proper}
-use Rattle.table.specs.Load.{Given, read, accepted, loadOf, loadedBy}
+use Rattle.table.specs.Load.{Given, read, accepted, loadOf, loadedBy, Slices, given, leftIn}
 use Rattle.table.specs.declared.states.Code.{Code}
 use Rattle.table.specs.declared.valid.Record.{Record}
 use Rattle.table.proofs.Packing.{unpack, packed-padded}
@@ -33,7 +33,7 @@ use Rattle.table.proofs.Accepted.{accepted-keeps-rules, accepted-proper}
 use Rattle.table.proofs.Leaves.{left-form}
 use Rattle.table.proofs.GivenText.{given-loaded}
 use Rattle.audit.specs.Audit.{Finding, Answer, numberOf, completeCodes, plainList, listing, looked, isPosition, auditOn}
-use Rattle.audit.specs.Demand.{Slices, given, leftIn, beginning, auditIn, answersFrom, pagesOf, lastOf, listUpTo, Demand3, DemandThree}
+use Rattle.audit.specs.Demand.{beginning, auditIn, answersFrom, pagesOf, lastOf, listUpTo, Demand3, DemandThree}
 use Rattle.audit.proofs.CodePages.{codes-lawful, list-up-to}
 use Rattle.audit.proofs.HeldTable.{audit-held}
 
@@ -185,9 +185,9 @@ module _ (t : Table) (p : Proper t) (k : Keeps limits t) (rec : Record) (m : Sli
   answers-are (c ∷ calls) q h =
       let a = pageFrom (listing t fallback) (c .allowance) (c .space) q in
       let e = audit-held t p k rec (m .states) (m .codes) (m .infos) (m .order) f fallback (codeOf q) (c .allowance) (c .space) ∙ call-is t fallback q h (c .allowance) (c .space) in
-      let d = done (listing t fallback) (completeCodes t) (codes-lawful t fallback) (c .allowance) (c .space) q in
+      let w = place-kept (listing t fallback) (completeCodes t) (codes-lawful t fallback) (c .allowance) (c .space) q (position-place t fallback q h) in
       (λ i. e i ∷ answersFrom rec m fallback (e i .page .position) calls)
-      ∙ ap (λ (l : List Answer). looked a ∷ l) (answers-are calls (a .position) (place-position t fallback (a .position) (d .place (position-place t fallback q h))))
+      ∙ ap (λ (l : List Answer). looked a ∷ l) (answers-are calls (a .position) (place-position t fallback (a .position) w))
 
   pub demand3-held : (calls : List Call) → Demand3 t fallback calls (answersFrom rec m fallback beginning calls)
   demand3-held calls =

@@ -7,5 +7,7 @@ pub mod ValidMemory
 pub mod FoundCauses
 pub mod Steps
 pub mod Tests
+pub mod Forward
+pub mod WholeCount
 pub mod EntryNumbers
 pub mod Tied

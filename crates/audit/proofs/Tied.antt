@@ -17,11 +17,11 @@ use Rattle.lists.proofs.Order.{map-all}
 use Rattle.lists.proofs.NotedPages.{joined-noted, summed-noted, last-noted, finished-noted, moves-noted, each-noted}
 use Rattle.table.specs.Codes.{after, upTo, countBetween, bytesOf}
 use Rattle.table.specs.Meaning.{Table, stepsOf}
-use Rattle.table.specs.Load.{read, accepted, loadedBy}
+use Rattle.table.specs.Load.{read, accepted, loadedBy, Slices, given, leftIn}
 use Rattle.table.specs.declared.states.Code.{Code}
 use Rattle.table.specs.declared.valid.Record.{Record}
 use Rattle.audit.specs.Audit.{Answer, numberOf, completeCodes, plainList, entryNumber, auditedOf, spaceAfter}
-use Rattle.audit.specs.Demand.{Slices, given, leftIn, beginning, auditIn, answersFrom, pagesOf, lastOf, listUpTo, Demand3, Demand3Told}
+use Rattle.audit.specs.Demand.{beginning, auditIn, answersFrom, pagesOf, lastOf, listUpTo, Demand3, Demand3Told}
 use Rattle.audit.specs.declared.Ending.{Ending}
 use Rattle.audit.specs.declared.Audited.{Audited}
 use Rattle.audit.proofs.Demand3.{demand3}

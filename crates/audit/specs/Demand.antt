@@ -7,35 +7,15 @@ use mathlib.Core.List.{List, [], _∷_, map}
 use lib.ListN.{length}
 use Rattle.lists.specs.Order.{All, In, Rising}
 use Rattle.lists.specs.Paging.{Page, Call, those, joined, summed, lastPosition, lastFinished, EachFrom, Moves}
-use Rattle.table.specs.Limits.{limits, needed}
+use Rattle.table.specs.Limits.{limits}
 use Rattle.table.specs.States.{isCode}
 use Rattle.table.specs.Codes.{before, after, upTo, countBetween, bytesOf, AllByte}
 use Rattle.table.specs.Meaning.{Table, stepsOf}
-use Rattle.table.specs.Load.{Given, read, accepted, givenBy, loadedBy, leftBy, statesOf, codesOf, infosOf, orderedOf}
+use Rattle.table.specs.Load.{read, accepted, loadedBy, Slices, given, leftIn}
 use Rattle.table.specs.declared.states.Code.{Code}
 use Rattle.table.specs.declared.valid.Record.{Record}
 use Rattle.audit.specs.Audit.{Finding, Answer, numberOf, completeCodes, plainList, auditTested, entryNumber}
 use Rattle.audit.specs.declared.Ending.{Ending}
-
--- the four lent slices
-pub record Slices : Type 0 where
-  pub states : List ℕ
-  pub codes : List ℕ
-  pub infos : List ℕ
-  pub order : List ℕ
-
--- what loading a text into lent slices gives, and what it leaves in them: the words of the load's own promise
-abbrev pub given : List ℕ → Slices → Given
-given text old = givenBy limits text (length (old .states)) (length (old .codes)) (length (old .infos)) (length (old .order))
-
-abbrev pub leftIn : Given → Slices → Slices
-leftIn g old =
-    record {
-      states = leftBy (needed limits) statesOf g (old .states);
-      codes = leftBy (limits .mappings) codesOf g (old .codes);
-      infos = leftBy (limits .mappings) infosOf g (old .infos);
-      order = leftBy (limits .mappings) orderedOf g (old .order);
-    }
 
 -- the position of no bytes
 abbrev pub beginning : Code

@@ -8,10 +8,7 @@ use Rattle.lists.specs.Pick.{pick}
 use Rattle.lists.specs.Place.{placed}
 use Rattle.table.specs.Limits.{limits}
 use Rattle.table.specs.Valid.{valid}
-use Rattle.table.specs.Numbers.{numberOf}
 use Rattle.table.specs.declared.valid.Record.{Record}
-use Rattle.table.specs.declared.load.Answer.{Answer}
-use Rattle.table.specs.declared.load.Answer.the-variants.{Accepted, Refused}
 use Rattle.table.specs.declared.load.Loaded.{Loaded}
 use Rattle.table.specs.declared.states.Code.{Code}
 use Rattle.convert.specs.Run.{Run}
@@ -47,11 +44,6 @@ ifShort n rec result short done = ifFewer 7 rec short (ifFewer n result short do
 -- the result slice with these numbers at its front
 abbrev pub withNumbers : List ℕ → List ℕ → List ℕ
 withNumbers ns old = placed old 0 ns
-
--- document 01's number for the answer to a text
-abbrev pub answerNumber : Answer → ℕ
-answerNumber Accepted = 0
-answerNumber (Refused x) = numberOf x
 
 -- what loading hands back beside its number: the line, then the record's seven numbers
 abbrev pub loadedNumbers : Loaded → List ℕ

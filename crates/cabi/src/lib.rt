@@ -1,9 +1,7 @@
 // The functions for C and Rust: each takes its arguments apart, calls the library, and puts the results into lent slices.
 use audit::Audited;
 use convert::Done;
-use table::load::Answer;
 use table::load::Loaded;
-use table::load::Refusal;
 use table::states::Code;
 use table::valid::Record;
 ghost use mathlib.Core.Path.{_≡_};
@@ -12,11 +10,11 @@ ghost use Prim.Native.Nat.{_≤_};
 ghost use lib.ListN.{length};
 ghost use Rattle.lists.specs.Pick.{pick};
 ghost use Rattle.table.specs.Limits.{limits};
-ghost use Rattle.table.specs.Numbers.{numberOf};
+ghost use Rattle.table.specs.Numbers.{answerNumber};
 ghost use Rattle.table.specs.Load.{givenBy, loadedBy, leftBy, statesOf, codesOf, infosOf, orderedOf};
 ghost use Rattle.convert.specs.Run.{putOut, haltNumber};
 ghost use Rattle.audit.specs.Audit.{auditedOf, spaceAfter, numberOf as endingNumber};
-ghost use Rattle.cabi.specs.Exported.{recordIn, ifFewer, ifShort, withNumbers, answerNumber, loadedNumbers, checkNumber, runNumbers, toExported, fromExported, auditedNumbers, auditExported};
+ghost use Rattle.cabi.specs.Exported.{recordIn, ifFewer, ifShort, withNumbers, loadedNumbers, checkNumber, runNumbers, toExported, fromExported, auditedNumbers, auditExported};
 
 // This layer's own number: a record or a result slice is too short, and nothing else happened.
 const SHORT: u32 = 70;
@@ -65,41 +63,6 @@ fn put_done(done: Done, result: &mut [u64]) -> u32
     convert::halt_number(halt)
 }
 
-// Document 01's number of a refusal.
-fn refusal_number(x: Refusal) -> u32
-    ensures { λ r. ⌜ r ≡ numberOf x ⌝ }
-{
-    match x {
-        Refusal::MemoryTooSmall => 1,
-        Refusal::TextTooLong => 2,
-        Refusal::NoForm => 10,
-        Refusal::KeyAgain => 11,
-        Refusal::UnfitValue => 12,
-        Refusal::KeyAbsent => 13,
-        Refusal::NotBuilt => 14,
-        Refusal::OutOfRange => 15,
-        Refusal::StatesBroken => 16,
-        Refusal::NoScalar => 20,
-        Refusal::NoSuchCode => 21,
-        Refusal::LeadingZero => 22,
-        Refusal::NoSubchar1 => 23,
-        Refusal::BytesTaken => 24,
-        Refusal::PointTaken => 25,
-        Refusal::TooMany => 26,
-        Refusal::NoEnd => 27,
-    }
-}
-
-// The number of the answer to a text.
-fn answer_number(a: Answer) -> u32
-    ensures { λ r. ⌜ r ≡ answerNumber a ⌝ }
-{
-    match a {
-        Answer::Accepted => 0,
-        Answer::Refused(x) => refusal_number(x),
-    }
-}
-
 // Puts line and record of a loaded text, and gives its number.
 fn put_loaded(loaded: Loaded, result: &mut [u64]) -> u32
     requires { ⌜ 8 ≤ length (now result) ⌝ }
@@ -119,7 +82,7 @@ fn put_loaded(loaded: Loaded, result: &mut [u64]) -> u32
     ];
     put_numbers(&numbers, result);
     let answer = loaded.answer;
-    answer_number(answer)
+    table::load::answer_number(answer)
 }
 
 // Loads a table's text into lent memory.

@@ -12,23 +12,21 @@ use Rattle.lists.specs.Pick.{pick}
 use Rattle.lists.specs.Place.{fits, placed}
 use Rattle.lists.proofs.Laws.{drop-step}
 use Rattle.table.specs.Codes.{packed, unpacked}
-use Rattle.table.proofs.Packing.{length-unpacked}
+use Rattle.table.proofs.Packing.{packed-none, packed-more, length-unpacked, unpacked-none, unpacked-more}
 
 -- packing from the last byte to the first
 pub pack-start : (s : List ℕ) (n : ℕ) → n ≤ length s → 0 ≡ packed (drop n (take n s))
-unfolding packed
 pack-start s n h =
     let e : length (take n s) ≡ n = length-take-le n s h in
     let l : length (take n s) ≤ n = omega arith in
-    rw (drop-of-length-le (take n s) l)
+    rw (drop-of-length-le (take n s) l) (sym packed-none)
 
 pub pack-step : (s : List ℕ) (n i : ℕ) → 0 < i → i ≤ n → n ≤ length s
     → getD s (i - 1) 0 * 16777216 + packed (drop i (take n s)) / 256 ≡ packed (drop (i - 1) (take n s))
-unfolding packed
 pack-step s n i p q h =
     let e : length (take n s) ≡ n = length-take-le n s h in
     let j : i - 1 + 1 ≡ i = omega arith in
-    rw (drop-step (take n s) (i - 1) (omega arith), getD-take n s (i - 1) 0 (omega arith), j)
+    rw (drop-step (take n s) (i - 1) (omega arith), getD-take n s (i - 1) 0 (omega arith), j) (sym (packed-more (getD s (i - 1) 0) (drop i (take n s))))
 
 pub pack-end : (s : List ℕ) (n i : ℕ) → i ≤ 0 → packed (drop i (take n s)) ≡ packed (take n s)
 pack-end s n zero h = refl
@@ -36,16 +34,10 @@ pack-end s n (suc i) h = absurd (omega arith)
 
 -- a turn: one more byte is stored
 pub put-one : (out : List ℕ) (i k v : ℕ) → 0 < k → sets out i (unpacked k v) ≡ sets (set out i (v / 16777216)) (i + 1) (unpacked (k - 1) (v % 16777216 * 256))
-unfolding unpacked
-put-one out i zero v h = absurd (omega arith)
-put-one out i (suc k) v h =
-    let e : suc k - 1 ≡ k = omega arith in
-    rw (e, add-one i)
+put-one out i k v h = rw (unpacked-more k v h, add-one i)
 
 pub put-none : (out : List ℕ) (i k v : ℕ) → k ≤ 0 → sets out i (unpacked k v) ≡ out
-unfolding unpacked
-put-none out i zero v h = refl
-put-none out i (suc k) v h = absurd (omega arith)
+put-none out i k v h = rw (unpacked-none k v h)
 
 module _ (out : List ℕ) (at n v : ℕ) where
   -- no room: nothing is put

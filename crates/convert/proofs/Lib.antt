@@ -6,3 +6,4 @@ pub mod ThereAndBack
 pub mod CodeBytes
 pub mod LookUps
 pub mod SameLines
+pub mod LoadedText

@@ -123,6 +123,12 @@ to-sound u t substitute = record {
       ∙ e;
 }
 
+-- a code gives at most four bytes of UTF-8
+pub four-bytes : (t : Table) (substitute : Bool) (row : ℕ) (s bs : List ℕ) (n next : ℕ) → toStep utf8 t substitute row s ≡ give bs n next → length bs ≤ 4
+four-bytes t substitute row s bs n next e =
+    let k = is-encoded t substitute row utf8 s bs n next e in
+    omega (arith, length-encode (k .point), ap length (k .spelt))
+
 -- T6: a line's code point is a scalar value
 t6-scalar : (l : Line) → t6 l ≡ true → Scalar (l .point)
 t6-scalar l =

@@ -1,6 +1,6 @@
--- What is written towards Unicode is text: code points of the input, spelt out, which read back as themselves.
+-- What is written towards Unicode is text: code points of the input, spelt out, which read back as themselves; and how much room UTF-8 needs.
 use mathlib.Core.Path.{_≡_, refl, sym, ap, subst, _∙_}
-use Prim.Native.Nat.{ℕ, _+_, _-_, _≤_, _<_}
+use Prim.Native.Nat.{ℕ, _+_, _-_, _*_, _≤_, _<_}
 use mathlib.Core.List.{List, [], _∷_, _++_, append-nil, map, flatten}
 use mathlib.Core.Bool.{Bool, true}
 use native.Mathlib.Omega.{arith}
@@ -22,7 +22,7 @@ use Rattle.convert.specs.Convert.{toRun}
 use Rattle.convert.specs.Claims.{Lawful, NotFull, codePoints, pointsIn, spell, onText, textStep, ReadsAs, ReadsAsFirst, WellFormedText}
 use Rattle.convert.specs.declared.Halt.the-variants.{Full, Stopped}
 use Rattle.convert.proofs.Runs.{run-stop, run-more, every-run}
-use Rattle.convert.proofs.Steps.{is-encoded, to-gives, to-stops, to-scalar, to-sound}
+use Rattle.convert.proofs.Steps.{is-encoded, to-gives, to-stops, to-scalar, to-sound, four-bytes}
 use Rattle.convert.proofs.Whole.{Given, inputs, outputs, GivesAll, made-of}
 
 -- what a run has written, beside all code points of its input
@@ -143,3 +143,16 @@ utf8-well-formed t substitute s room ok =
       joined = w .bytes ∙ spell-flat utf8 (w .points);
       formed = map-all encodeOf (λ q. wellFormed q ≡ true) (w .points) (all-map encodes-formed (w .points) (w .scalar));
     }
+
+-- four places to each byte of the input are enough
+pub room-enough : (t : Table) (substitute : Bool) (s : List ℕ) (row room : ℕ) → 4 * length s ≤ room → NotFull (runOf (toStep utf8 t substitute) row 0 s room)
+room-enough t substitute =
+    every-run (toStep utf8 t substitute) (to-sound utf8 t substitute) (λ row s room r. 4 * length s ≤ room → NotFull r)
+    (λ row room h f. let z : _≡_ {A = ℕ} 0 1 = cc in omega arith)
+    (λ row s room h w e l f. let z : _≡_ {A = ℕ} 0 1 = cc in omega arith)
+    (λ row s room h bs n next e l k f. let b = four-bytes t substitute row s bs n next e in omega arith)
+    (λ row s room h bs n next e l r ih k f.
+    let b = four-bytes t substitute row s bs n next e in
+    let w = to-sound utf8 t substitute .some row s bs n next e in
+    let v = to-sound utf8 t substitute .within row s bs n next e in
+    ih (omega (arith, length-drop n s)) f)

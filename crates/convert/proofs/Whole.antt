@@ -37,6 +37,15 @@ module _ (step : Step) (so : Sound step) where
       (λ st s room h bs n next e l. omega arith)
       (λ st s room h bs n next e l r ih. omega (arith, length-append bs (r .bytes)))
 
+  -- no more is read than there is
+  pub reads-within : (s : List ℕ) (st room : ℕ) → runOf step st 0 s room .read ≤ length s
+  reads-within =
+      every-run step so (λ st s room r. r .read ≤ length s)
+      (λ st room. omega arith)
+      (λ st s room h w e. omega arith)
+      (λ st s room h bs n next e l. omega arith)
+      (λ st s room h bs n next e l r ih. let w = so .within st s bs n next e in omega (arith, length-drop n s))
+
   -- an answer of 0 has read all
   pub all-read : (s : List ℕ) (st room : ℕ) → runOf step st 0 s room .halt ≡ All → runOf step st 0 s room .read ≡ length s
   all-read =

@@ -1,7 +1,7 @@
 -- The two conversions, for any Unicode side: the test behind 60 first, then the run from row 0.
 use Prim.Native.Nat.{ℕ}
 use mathlib.Core.List.{List}
-use mathlib.Core.Bool.{Bool, true, false}
+use mathlib.Core.Bool.{Bool}
 use Rattle.lists.specs.Pick.{pick}
 use Rattle.table.specs.Limits.{Limits}
 use Rattle.table.specs.Meaning.{Table}

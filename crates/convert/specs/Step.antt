@@ -1,16 +1,14 @@
 -- What one sequence gives, on either side, by the lines of a table. The Unicode side is a parameter.
-use Prim.Native.Nat.{ℕ, zero, suc, _+_, _-_, _*_, _<_, _≤_}
-use mathlib.Core.Path.{_≡_}
-use mathlib.Core.List.{List, [], _∷_, _++_}
-use mathlib.Core.Bool.{Bool, true, false}
+use Prim.Native.Nat.{ℕ}
+use mathlib.Core.List.{List, [], _∷_}
+use mathlib.Core.Bool.{Bool}
 use mathlib.Core.Option.{Option, none, some}
-use lib.Dec.{leb, eqb}
-use lib.ListN.{length, take, drop}
+use lib.Dec.{eqb}
+use lib.ListN.{take}
 use Rattle.lists.specs.Pick.{pick}
 use Rattle.unicode.specs.Utf8.{decodeOne, encodeOf, Scalar}
 use Rattle.unicode.specs.declared.utf8.Sequence.{Sequence}
 use Rattle.unicode.specs.declared.utf8.Sequence.the-variants as sequence
-use Rattle.unicode.specs.declared.utf8.Stop.{Stop}
 use Rattle.unicode.specs.declared.utf8.Stop.the-variants as stopped
 use Rattle.table.specs.States.{cutOf}
 use Rattle.table.specs.Codes.{unpacked}

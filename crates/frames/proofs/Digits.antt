@@ -45,12 +45,13 @@ more-le (suc k) (suc f) (suc n) h =
     let ih : moreDigits f (suc n / 10) ≤ k = more-le k f (suc n / 10) (omega arith) in
     omega arith
 
+pub count-below : (k n : ℕ) → n / 10 < 10 ^ k → decimalCount n ≤ suc k
+unfolding decimalCount
+count-below k n h = omega (arith, more-le k n (n / 10) h)
+
 -- a number of 64 bits has at most 20 digits
 pub count-le : (n : ℕ) → n < 2 ^ 64 → decimalCount n ≤ 20
-unfolding decimalCount
-count-le n h =
-    let l : n / 10 < 10 ^ 19 = omega arith in
-    omega (arith, more-le 19 n (n / 10) l)
+count-le n h = count-below 19 n (omega arith)
 
 pub length-digits : (k n : ℕ) → length (digitsOf k n) ≡ k
 unfolding digitsOf

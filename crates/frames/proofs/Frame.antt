@@ -11,8 +11,8 @@ use lib.ListN.{length, getD, drop, set}
 use lib.Seq.{sets, sets-eq}
 use Rattle.lists.specs.Pick.{pick}
 use Rattle.lists.specs.Between.{between}
-use Rattle.lists.proofs.Laws.{drop-step, drop-end, clash, not-yes, both-left, both-right}
-use Rattle.lists.proofs.Between.{between-yes, between-high, between-is}
+use Rattle.lists.proofs.Laws.{drop-step, drop-end, clash, both-left, both-right}
+use Rattle.lists.proofs.Between.{between-yes, between-high, between-is, between-no}
 use Rattle.frames.specs.Lines.{digitValue, allDigits, bytesOf, isDash, isHex, parsed, parsedAnswer, parsedInto, putInto}
 use Rattle.frames.specs.declared.lines.Parsed.the-variants.{Frame, Bad}
 
@@ -30,12 +30,9 @@ module _ (b : ℕ) where
   unfolding digitValue
   value-small h k = simp (between-high 48 57 b (omega arith) (omega arith), between-high 65 70 b (omega arith) (omega arith), between-yes 97 102 b h k)
 
-  outside : (lo hi : ℕ) → (lo ≤ b → b ≤ hi → ⊥) → between lo hi b ≡ false
-  outside lo hi h = not-yes (between lo hi b) (λ e. let r = between-is lo hi b e in h (r .0) (r .1))
-
   pub value-other : (48 ≤ b → b ≤ 57 → ⊥) → (65 ≤ b → b ≤ 70 → ⊥) → (97 ≤ b → b ≤ 102 → ⊥) → 16 ≡ digitValue b
   unfolding digitValue
-  value-other h k l = simp (outside 48 57 h, outside 65 70 k, outside 97 102 l)
+  value-other h k l = simp (between-no 48 57 b h, between-no 65 70 b k, between-no 97 102 b l)
 
 -- a cursor over digits
 module _ (s : List ℕ) (i : ℕ) where

@@ -1,7 +1,7 @@
 -- Hexadecimal digits: one more byte's are stored, and how many there are.
-use mathlib.Core.Path.{_≡_, refl, sym, ap, _∙_}
+use mathlib.Core.Path.{_≡_, refl, sym, _∙_}
 use mathlib.Core.List.{List, [], _∷_}
-use Prim.Native.Nat.{ℕ, zero, suc, _+_, _-_, _*_, _/_, _%_, _≤_, _<_}
+use Prim.Native.Nat.{ℕ, suc, _+_, _-_, _*_, _/_, _%_, _≤_, _<_}
 use native.Mathlib.Omega.{arith}
 use lib.ListN.{length, getD, drop}
 use lib.Seq.{sets}
@@ -9,7 +9,9 @@ use lib.Dec.{eqb}
 use Rattle.lists.proofs.Cases.{pick-case}
 use Rattle.lists.proofs.Laws.{drop-step, drop-end}
 use borrow.Author.Tests.{eq-eqb, ne-eqb}
-use Rattle.frames.specs.Lines.{hexByte, hexBytes, hexOf, hexCount, codeBytes}
+use Rattle.table.specs.Codes.{unpacked}
+use Rattle.table.proofs.Packing.{unpacked-none, unpacked-more}
+use Rattle.frames.specs.Lines.{hexByte, hexBytes, hexOf, hexCount}
 
 pub hex-stored : (out s : List ℕ) (p i : ℕ) → i < length s
     → sets out p (hexBytes (drop i s)) ≡ sets (sets out p (hexByte (getD s i 0))) (p + 2) (hexBytes (drop (i + 1) s))
@@ -24,28 +26,20 @@ hex-done out s p i h = rw (drop-end s i h)
 
 -- the same for a code that is held in a number
 pub code-stored : (out : List ℕ) (p n bits : ℕ) → 0 < n
-    → sets out p (hexBytes (codeBytes n bits)) ≡ sets (sets out p (hexByte (bits / 16777216))) (p + 2) (hexBytes (codeBytes (n - 1) (bits % 16777216 * 256)))
-unfolding hexBytes codeBytes
-code-stored out p zero bits h = absurd (omega arith)
-code-stored out p (suc n) bits h =
+    → sets out p (hexBytes (unpacked n bits)) ≡ sets (sets out p (hexByte (bits / 16777216))) (p + 2) (hexBytes (unpacked (n - 1) (bits % 16777216 * 256)))
+unfolding hexBytes
+code-stored out p n bits h =
     let e : p + 2 ≡ suc (suc p) = omega arith in
-    let k : suc n - 1 ≡ n = omega arith in
-    rw (e, k)
+    rw (unpacked-more n bits h, e)
 
-pub code-done : (out : List ℕ) (p n bits : ℕ) → n ≤ 0 → sets out p (hexBytes (codeBytes n bits)) ≡ out
-unfolding hexBytes codeBytes
-code-done out p zero bits h = refl
-code-done out p (suc n) bits h = absurd (omega arith)
+pub code-done : (out : List ℕ) (p n bits : ℕ) → n ≤ 0 → sets out p (hexBytes (unpacked n bits)) ≡ out
+unfolding hexBytes
+code-done out p n bits h = rw (unpacked-none n bits h)
 
 pub length-hex : (s : List ℕ) → length (hexBytes s) ≡ 2 * length s
 unfolding hexBytes
 length-hex [] = refl
 length-hex (b ∷ s) = omega (arith, length-hex s)
-
-pub length-code : (n bits : ℕ) → length (codeBytes n bits) ≡ n
-unfolding codeBytes
-length-code zero bits = refl
-length-code (suc n) bits = ap suc (length-code n (bits % 16777216 * 256))
 
 -- no bytes, and some
 pub hex-none : (s : List ℕ) → length s ≡ 0 → hexOf s ≡ 45 ∷ []

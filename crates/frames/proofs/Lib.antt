@@ -5,4 +5,15 @@ pub mod Frame
 pub mod Steps
 pub mod RoundTrip
 pub mod Pieces
+pub mod Held
+pub mod Answers
+pub mod Widths
+pub mod Tellings
+pub mod Turns
+pub mod EnoughCalls
+pub mod WholeInput
+pub mod Findings
+pub mod OnePage
+pub mod WholeList
+pub mod OfText
 pub mod Cases

@@ -1,2 +1,4 @@
 pub mod Lines
 pub mod Stream
+pub mod Report
+pub mod Pages

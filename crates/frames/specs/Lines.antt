@@ -63,14 +63,6 @@ fixedLine text = text ++ 10 ∷ []
 abbrev pub badFrame : List ℕ
 badFrame = 66 ∷ 65 ∷ 68 ∷ 32 ∷ 70 ∷ 82 ∷ 65 ∷ 77 ∷ 69 ∷ []
 
--- `NO TABLE`
-abbrev pub noTable : List ℕ
-noTable = 78 ∷ 79 ∷ 32 ∷ 84 ∷ 65 ∷ 66 ∷ 76 ∷ 69 ∷ []
-
--- `TABLE TOO LONG`
-abbrev pub tableTooLong : List ℕ
-tableTooLong = 84 ∷ 65 ∷ 66 ∷ 76 ∷ 69 ∷ 32 ∷ 84 ∷ 79 ∷ 79 ∷ 32 ∷ 76 ∷ 79 ∷ 78 ∷ 71 ∷ []
-
 -- two numbers, each behind a text
 unfoldable pub twoNumbers : List ℕ → ℕ → List ℕ → ℕ → List ℕ
 twoNumbers first n second m = first ++ decimalOf n ++ (second ++ decimalOf m) ++ 10 ∷ []
@@ -97,11 +89,6 @@ unfoldable pub closingLine : ℕ → ℕ → List ℕ
 closingLine looked listed =
     twoNumbers (76 ∷ 79 ∷ 79 ∷ 75 ∷ 69 ∷ 68 ∷ 32 ∷ []) looked (32 ∷ 76 ∷ 73 ∷ 83 ∷ 84 ∷ 69 ∷ 68 ∷ 32 ∷ []) listed
 
--- the bytes of a code of n bytes that is held in a number of 32 bits, the first byte on top
-unfoldable pub codeBytes : ℕ → ℕ → List ℕ
-codeBytes zero bits = []
-codeBytes (suc n) bits = bits / 16777216 ∷ codeBytes n (bits % 16777216 * 256)
-
 -- the answer of putting a text into old from at on: the place behind it, or that it does not fit
 unfoldable pub roomAfter : List ℕ → ℕ → List ℕ → Room
 roomAfter old at text = pick (fits old at text) (Put (at + length text)) Full
@@ -109,6 +96,15 @@ roomAfter old at text = pick (fits old at text) (Put (at + length text)) Full
 -- old after that
 unfoldable pub putInto : List ℕ → ℕ → List ℕ → List ℕ
 putInto old at text = pick (fits old at text) (placed old at text) old
+
+-- how many bytes that put: none where it does not fit
+abbrev pub countPut : Room → ℕ
+countPut (Put n) = n
+countPut Full = 0
+
+-- how many bytes a text puts at the front of old
+unfoldable pub putCount : List ℕ → List ℕ → ℕ
+putCount old text = countPut (roomAfter old 0 text)
 
 -- the value of a hexadecimal digit of either case, 16 for any other byte
 unfoldable pub digitValue : ℕ → ℕ

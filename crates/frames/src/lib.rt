@@ -1,2 +1,4 @@
 // The program's work as a library: lines in, lines out.
 pub mod lines;
+pub mod pages;
+pub mod report;

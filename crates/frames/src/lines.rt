@@ -6,7 +6,8 @@ ghost use Prim.Native.Nat.{_+_, _-_, _*_, _%_, _^_, _≤_, _<_};
 ghost use lib.ListN.{length, drop};
 ghost use lib.Seq.{sets};
 ghost use Rattle.lists.specs.Order.{lead};
-ghost use Rattle.frames.specs.Lines.{hexDigit, hexByte, hexOf, hexCount, digitsOf, decimalCount, fixedLine, twoNumbers, okLine, refusedLine, answerLine, findingLine, closingLine, codeBytes, roomAfter, putInto, digitValue, allDigits, bytesOf, isDash, isHex, parsed, parsedAnswer, parsedInto};
+ghost use Rattle.table.specs.Codes.{unpacked};
+ghost use Rattle.frames.specs.Lines.{hexDigit, hexByte, hexOf, hexCount, digitsOf, decimalCount, fixedLine, twoNumbers, okLine, refusedLine, answerLine, findingLine, closingLine, roomAfter, putInto, countPut, digitValue, allDigits, bytesOf, isDash, isHex, parsed, parsedAnswer, parsedInto};
 ghost use Rattle.frames.specs.Stream.{inLine, extend, stepOf, heldIn, partialOf, keptIn, takenAnswer, takenInto};
 
 // What putting a text gives: the place behind it, or that it does not fit.
@@ -31,6 +32,16 @@ pub struct Partial {
 pub enum Taken {
     Line(usize, Partial),
     More(Partial),
+}
+
+// How many bytes were put by what began at the front: none where it did not fit.
+pub fn count_put(room: Room) -> usize
+    ensures { λ r. ⌜ r ≡ countPut room ⌝ }
+{
+    match room {
+        Room::Put(n) => n,
+        Room::Full => 0,
+    }
 }
 
 // How many places there are from `at` on.
@@ -135,7 +146,7 @@ fn write_hex(bytes: &[u8], out: &mut [u8], at: usize) -> usize
 // Writes a code that is held in a number as digits, `-` for no bytes, and answers the place behind them.
 fn write_code(bits: u32, len: usize, out: &mut [u8], at: usize) -> usize
     requires { ⌜ at + hexCount len ≤ length (now out) ⌝ }
-    ensures { λ r. ⌜ (r ≡ at + hexCount len) × (now (out .exit) ≡ sets (now (out .entry)) at (hexOf (codeBytes len bits))) ⌝ }
+    ensures { λ r. ⌜ (r ≡ at + hexCount len) × (now (out .exit) ≡ sets (now (out .entry)) at (hexOf (unpacked len bits))) ⌝ }
 {
     if len == 0 {
         out[at] = 45;
@@ -267,7 +278,7 @@ pub fn put_answer(number: u32, read: usize, text: &[u8], out: &mut [u8], at: usi
 
 // Puts a finding of the audit: a code of `len` bytes, the first on top of `bits`, and its cause.
 pub fn put_finding(bits: u32, len: u32, cause: u32, out: &mut [u8], at: usize) -> Room
-    ensures { λ r. ⌜ (r ≡ roomAfter (now (out .entry)) at (findingLine (codeBytes len bits) cause)) × (now (out .exit) ≡ putInto (now (out .entry)) at (findingLine (codeBytes len bits) cause)) ⌝ }
+    ensures { λ r. ⌜ (r ≡ roomAfter (now (out .entry)) at (findingLine (unpacked len bits) cause)) × (now (out .exit) ≡ putInto (now (out .entry)) at (findingLine (unpacked len bits) cause)) ⌝ }
 {
     let n = cause as u64;
     let bytes = len as usize;

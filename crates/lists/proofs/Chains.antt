@@ -27,3 +27,15 @@ bar-rest false b e = e
 
 pub bar : (a b : Bool) → a ≡ false → b ≡ true → pick a false b ≡ true
 bar a b p q = rw (p, q)
+
+-- and one that gives true where a test holds: none holds
+pub either-first : (a b : Bool) → pick a true b ≡ false → a ≡ false
+either-first true b e = e
+either-first false b e = refl
+
+pub either-rest : (a b : Bool) → pick a true b ≡ false → b ≡ false
+either-rest true b e = absurd (clash refl e)
+either-rest false b e = e
+
+pub neither : (a b : Bool) → a ≡ false → b ≡ false → pick a true b ≡ false
+neither a b p q = rw (p, q)

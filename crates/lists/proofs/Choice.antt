@@ -9,9 +9,14 @@ same-test true b f g = sym (f refl)
 same-test false true f g = g refl
 same-test false false f g = refl
 
-pub pick-no : (a : Bool) → pick a false false ≡ false
-pick-no true = refl
-pick-no false = refl
+-- both choices are the same
+pub pick-false : (a : Bool) → pick a false false ≡ false
+pick-false true = refl
+pick-false false = refl
+
+pub always : (a : Bool) → pick a true true ≡ true
+always true = refl
+always false = refl
 
 pub pick-self : (a : Bool) → pick a true false ≡ a
 pick-self true = refl

@@ -6,7 +6,7 @@ pub mod Append
 pub mod Parts
 pub mod Choice
 pub mod Halving
-pub mod Members
+pub mod Sorting
 pub mod AllParts
 pub mod Chains
 pub mod First
@@ -14,7 +14,9 @@ pub mod Paging
 pub mod Pairs
 pub mod Front
 pub mod Stores
+pub mod Copied
 pub mod Cursors
 pub mod AllPlaces
 pub mod PageLoop
 pub mod NotedPages
+pub mod PageEntries

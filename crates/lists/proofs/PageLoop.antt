@@ -1,12 +1,12 @@
 -- A loop that pages through a listing and writes each entry as a number into a lent space: where it stands, and what the call gives where it ends.
-use Prim.Native.Nat.{ℕ, zero, suc, _+_, _-_, _≤_, _<_, zero-le}
+use Prim.Native.Nat.{ℕ, suc, _+_, _-_, _≤_, _<_, zero-le}
 use native.Mathlib.Omega.{arith}
 use native.Mathlib.Nat.{zero-add, sub-zero, add-zero}
 use native.Mathlib.Numerals.{add-one}
 use mathlib.Core.Path.{_≡_, refl, sym, ap, _∙_}
 use mathlib.Core.Bool.{Bool, true, false}
-use mathlib.Core.Option.{Option, none, some}
-use mathlib.Core.List.{List, [], _∷_, _++_, map, append-nil, append-assoc}
+use mathlib.Core.Option.{none, some}
+use mathlib.Core.List.{List, [], _∷_, _++_, map, map-append, append-nil, append-assoc}
 use lib.ListN.{length, drop, set, length-append, length-map, length-drop}
 use lib.Seq.{append-snoc, set-at, drop-cons}
 use Rattle.lists.specs.Paging.{Listing, Page, isNone, stoppedAt, counted, look, pageFrom}
@@ -29,10 +29,6 @@ module _ {E P : Type 0} where
       let e : n + suc (a .count) ≡ n + 1 + a .count = omega arith in
       let g : d ++ (x ∷ a .entries) ≡ (d ++ (x ∷ [])) ++ a .entries = sym (append-assoc d (x ∷ []) (a .entries)) in
       λ i. record { entries = g i; count = e i; position = a .position; finished = a .finished }
-
-map-snoc : {E : Type 0} (f : E → ℕ) (l : List E) (x : E) → map f (l ++ (x ∷ [])) ≡ map f l ++ (f x ∷ [])
-map-snoc f [] x = refl
-map-snoc f (y ∷ l) x = ap (λ (m : List ℕ). f y ∷ m) (map-snoc f l x)
 
 -- a page handed back: its position, whether it is finished, how many entries and elements, and the space before and after
 pub record Handed {E P : Type 0} (number : E → ℕ) (a : Page E P) (q : P) (f : Bool) (used count : ℕ) (old new : List ℕ) : Type 0 where
@@ -97,7 +93,7 @@ module _ {A E P : Type 0} (S : Listing A E P) (number : E → ℕ) (n : ℕ) (p 
           let long : length M ≡ used = length-map (w .done) number ∙ sym (w .used-is) in
           ap (λ (o : List ℕ). set o used v) (w .space-is ∙ ap (λ (o : List ℕ). M ++ o) (drop-cons old used 0 l))
           ∙ set-at M _ _ v used long
-          ∙ rw (map-snoc, add-one, append-snoc, k);
+          ∙ rw (map-append, add-one, append-snoc, k);
       within = omega arith;
       room = omega arith;
     }

@@ -53,6 +53,17 @@ module _ {A : Type 0} (f : A → Bool) where
       go true ih e = absurd (cons≢nil e)
       go false ih e = ap (λ (m : List A). x ∷ m) (ih e)
 
+  -- they and the others are as many as the list has
+  pub those-both : (l : List A) → length (those f l) + length (those (λ x. not (f x)) l) ≡ length l
+  unfolding those
+  those-both [] = refl
+  those-both (x ∷ l) = go (f x) (those-both l)
+    where
+      go : (b : Bool) → length (those f l) + length (those (λ x. not (f x)) l) ≡ length l
+          → length (pick b (x ∷ those f l) (those f l)) + length (pick (not b) (x ∷ those (λ x. not (f x)) l) (those (λ x. not (f x)) l)) ≡ suc (length l)
+      go true e = omega arith
+      go false e = omega arith
+
 not-true : {b : Bool} → b ≡ true → not b ≡ false
 not-true e = rw e
 
@@ -164,9 +175,12 @@ module _ {A E P : Type 0} (S : Listing A E P) (L : List A) (W : Lawful S L) wher
       go ih true t = inl (sym (head-eq-of-cons-eq (sym (those-yes (S .after p) d l t) ∙ e)))
       go ih false t = inr (ih (sym (those-no (S .after p) d l t) ∙ e))
 
-  -- a position of the list
+  -- an element's position, and a position of the list
+  abbrev pub Reached : P → Type 0
+  Reached p = (x : A) × In x L × (p ≡ S .at x)
+
   abbrev pub Place : P → Type 0
-  Place p = (p ≡ S .start) ⊎ ((x : A) × In x L × (p ≡ S .at x))
+  Place p = (p ≡ S .start) ⊎ Reached p
 
   -- what a call from p that handed back a did: the elements it looked at
   pub record Done (p : P) (a : Page E P) : Type 0 where
@@ -177,7 +191,7 @@ module _ {A E P : Type 0} (S : Listing A E P) (L : List A) (W : Lawful S L) wher
     pub count : a .count ≡ length looked
     pub ends : (a .finished ≡ true) ↔ (left S (a .position) L ≡ [])
     pub beyond : (b : A) → S .after (a .position) b ≡ true → S .after p b ≡ true
-    pub place : Place p → Place (a .position)
+    pub place : (a .position ≡ p) ⊎ Reached (a .position)
 
   done-stopped : (p : P) (f : Bool) → (f ≡ true) ↔ (left S p L ≡ []) → Done p (stoppedAt p f)
   unfolding notes
@@ -190,7 +204,7 @@ module _ {A E P : Type 0} (S : Listing A E P) (L : List A) (W : Lawful S L) wher
         count = refl;
         ends = h;
         beyond = λ b e. e;
-        place = λ w. w;
+        place = inl refl;
       }
 
   done-counted : (p : P) (c : A) (r : List A) (w : Option E) (a : Page E P) → left S p L ≡ c ∷ r → S .note c ≡ w → Done (S .at c) a → Done p (counted w a)
@@ -209,8 +223,12 @@ module _ {A E P : Type 0} (S : Listing A E P) (L : List A) (W : Lawful S L) wher
         count = ap suc (d .count);
         ends = d .ends;
         beyond = λ b u. W .trans p c b first (d .beyond b u);
-        place = λ v. d .place (inr (c, left-in p c L r e, refl));
+        place = inr (reached (d .place));
       }
+    where
+      reached : (a .position ≡ S .at c) ⊎ Reached (a .position) → Reached (a .position)
+      reached (inl q) = (c, left-in p c L r e, q)
+      reached (inr q) = q
 
   pub done : (n space : ℕ) (p : P) → Done p (pageFrom S n space p)
   unfolding pageFrom
@@ -225,6 +243,17 @@ module _ {A E P : Type 0} (S : Listing A E P) (L : List A) (W : Lawful S L) wher
       go : (o : Option A) → head? (left S p L) ≡ o → ((space : ℕ) (p : P) → Done p (pageFrom S n space p)) → Done p (look S p o space (pageFrom S n))
       go none e ih = done-stopped p true ((λ _. head-nil (left S p L) e), (λ _. refl))
       go (some c) e ih = let h = head-cons (left S p L) c e in at c (h .0) (h .1) (S .note c) space refl ih
+
+  -- its position is of a kind that the old one and those of the elements are
+  pub position-kept : (K : P → Type 0) → ((x : A) → In x L → K (S .at x)) → (n space : ℕ) (p : P) → K p → K (pageFrom S n space p .position)
+  position-kept K f n space p k = go (done n space p .place)
+    where
+      go : (pageFrom S n space p .position ≡ p) ⊎ Reached (pageFrom S n space p .position) → K (pageFrom S n space p .position)
+      go (inl e) = subst K (sym e) k
+      go (inr r) = subst K (sym (r .2)) (f (r .0) (r .1))
+
+  pub place-kept : (n space : ℕ) (p : P) → Place p → Place (pageFrom S n space p .position)
+  place-kept = position-kept Place (λ x i. inr (x, i, refl))
 
   -- what a list of calls from p did
   record Ran (p : P) (cs : List Call) : Type 0 where
@@ -263,7 +292,7 @@ module _ {A E P : Type 0} (S : Listing A E P) (L : List A) (W : Lawful S L) wher
         each = (d .count ∙ ap length (sym (d .between)), r .each);
         finished = (d .ends, r .finished);
         moves = (moves-on S (c .allowance) (c .space) p, r .moves);
-        positions = λ w. (d .place w, r .positions (d .place w));
+        positions = λ w. let v = place-kept (c .allowance) (c .space) p w in (v, r .positions v);
         lastly = λ f h e. r .lastly (pageFrom S (c .allowance) (c .space) p .finished) (d .ends .0) e;
       }
 

@@ -6,9 +6,13 @@ use native.Mathlib.Omega.{arith}
 use lib.ListN.{length, getD, take, drop, replicate}
 use Rattle.lists.proofs.Laws.{drop-step}
 
+-- how many are left, and one less
+pub left-step : (n k : ℕ) → k < n → n - k ≡ suc (n - (k + 1))
+left-step n k h = omega arith
+
 -- the part from i up to m
 pub part-step : (l : List ℕ) (i m : ℕ) → i < m → i < length l → take (m - i) (drop i l) ≡ getD l i 0 ∷ take (m - (i + 1)) (drop (i + 1) l)
-part-step l i m h k = let e : m - i ≡ suc (m - (i + 1)) = omega arith in rw (e, drop-step l i k)
+part-step l i m h k = rw (left-step m i h, drop-step l i k)
 
 -- the same value at every place, past the end too
 pub same-at : {A : Type 0} (n i : ℕ) (d : A) → getD (replicate n d) i d ≡ d

@@ -1,7 +1,7 @@
 -- Positions in a rising list of codes: the next code, the codes after a position, those up to one, and how many lie between two.
 use Prim.Native.Nat.{ℕ, _+_, _≤_}
 use mathlib.Core.Path.{_≡_, refl, sym, subst, _∙_, ap}
-use mathlib.Core.Bool.{Bool, true, false, not}
+use mathlib.Core.Bool.{Bool, true, false}
 use mathlib.Core.List.{List, [], _∷_, _++_}
 use native.Mathlib.Omega.{arith}
 use lib.ListN.{length, length-append}
@@ -71,16 +71,6 @@ after-later p c (x ∷ l) k q = go (before p x) refl (after-later p c l k) q
     go : (b : Bool) → before p x ≡ b → (after p l ≡ c ∷ k → before p c ≡ true) → keep b x (after p l) ≡ c ∷ k → before p c ≡ true
     go true e ih q = let w : x ≡ c = cc in rw w at e
     go false e ih q = ih q
-
--- where nothing comes after p all is up to it
-pub upto-all : (p : List ℕ) (l : List (List ℕ)) → after p l ≡ [] → upTo p l ≡ l
-unfolding upTo after
-upto-all p [] e = refl
-upto-all p (x ∷ l) e = go (before p x) (upto-all p l) e
-  where
-    go : (b : Bool) → (after p l ≡ [] → upTo p l ≡ l) → keep b x (after p l) ≡ [] → keep (not b) x (upTo p l) ≡ x ∷ l
-    go true ih e = absurd (let z : _≡_ {A = ℕ} 0 1 = cc in omega arith)
-    go false ih e = ap (λ (m : List (List ℕ)). x ∷ m) (ih e)
 
 -- none of those after a position is up to it
 upto-after : (q : List ℕ) (l : List (List ℕ)) → upTo q (after q l) ≡ []

@@ -97,10 +97,6 @@ t2-kept n ts k r b m hr hb e =
     let hi = ltb-true (x - 16) n (both-right (leb 1 (x - 16)) (ltb (x - 16) n) o) in
     (omega (arith, q .1), omega (arith, q .1))
 
--- T2: a row led to exists and is not row 0
-pub t2-at : (n : ℕ) (ts : List ℕ) → statesOk limits n ts ≡ true → (r b m : ℕ) → r < 16 → b < 256 → stepAt (take 4096 ts) r b ≡ Leads m → (1 ≤ m) × (m < n)
-t2-at n ts h r b m hr hb e = t2-kept n ts (states-kept n ts h) r b m hr hb (sym (step-needed ts r b hr hb) ∙ e)
-
 -- two ways to know the rows that say the same of the rows there can be
 pub record Agree (a c : Rows) : Type 0 where
   pub same : (r b : ℕ) → r < 16 → b < 256 → a r b ≡ c r b

@@ -8,7 +8,7 @@ use lib.Dec.{ltb, leb, eqb}
 use borrow.Author.Tests.{eqb-true, eq-eqb, leb-true, le-leb}
 use Rattle.lists.specs.Pick.{pick}
 use Rattle.lists.specs.Order.{byKey, Comparable}
-use Rattle.lists.proofs.Choice.{pick-no}
+use Rattle.lists.proofs.Choice.{pick-false}
 use Rattle.lists.proofs.Laws.{clash, not-yes, both-left, both-right}
 use Rattle.lists.proofs.Order.{by-cases, by-irrefl, by-trans, by-apart}
 use Rattle.table.specs.Entry.{Entry, bitsOf, infoOf, mk, pointIn, rankIn, extraIn, writesEntry, keyIn, keyOf, never, less, pointLess, readClash, writeClash, readNext, writeNext}
@@ -207,7 +207,7 @@ apart-differ a b p q e = self-by a (eqb (rankIn (a .info)) 1) refl (subst (λ (x
 -- the orders as the code tests them
 or-no : (s t : Bool) → pick s true (pick t false false) ≡ s
 or-no true t = refl
-or-no false t = pick-no t
+or-no false t = pick-false t
 
 pub less-is : (c i d j : ℕ) → less (mk c i) (mk d j) ≡ pick (ltb c d) true (pick (ltb d c) false (ltb i j))
 unfolding less byKey

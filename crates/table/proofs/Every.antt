@@ -3,7 +3,7 @@ use Prim.Native.Nat.{ℕ, zero, suc}
 use mathlib.Core.Path.{_≡_, refl}
 use mathlib.Core.Bool.{Bool, true}
 use mathlib.Core.List.{List, [], _∷_, _++_}
-use lib.ListN.{take, drop, replicate}
+use lib.ListN.{replicate}
 use Rattle.lists.specs.Order.{All}
 use Rattle.lists.proofs.Laws.{both, both-left, both-right}
 use Rattle.table.specs.Meaning.{flat}
@@ -14,18 +14,6 @@ module _ {A : Type 0} (f : A → Bool) where
   unfolding allOf
   every-append [] m h k = k
   every-append (x ∷ l) m h k = both (f x) (allOf f (l ++ m)) (both-left (f x) (allOf f l) h) (every-append l m (both-right (f x) (allOf f l) h) k)
-
-  pub every-take : (n : ℕ) (l : List A) → allOf f l ≡ true → allOf f (take n l) ≡ true
-  unfolding allOf
-  every-take zero l h = refl
-  every-take (suc n) [] h = refl
-  every-take (suc n) (x ∷ l) h = both (f x) (allOf f (take n l)) (both-left (f x) (allOf f l) h) (every-take n l (both-right (f x) (allOf f l) h))
-
-  pub every-drop : (n : ℕ) (l : List A) → allOf f l ≡ true → allOf f (drop n l) ≡ true
-  unfolding allOf
-  every-drop zero l h = h
-  every-drop (suc n) [] h = h
-  every-drop (suc n) (x ∷ l) h = every-drop n l (both-right (f x) (allOf f l) h)
 
   pub every-replicate : (n : ℕ) (x : A) → f x ≡ true → allOf f (replicate n x) ≡ true
   unfolding allOf

@@ -2,7 +2,6 @@
 -- 27 names the line count plus 1.
 use Prim.Native.Nat.{ℕ, suc, _+_}
 use mathlib.Core.Path.{_≡_, refl, sym, ap, subst, _∙_}
-use mathlib.Core.Bool.{true}
 use mathlib.Core.Logic.{_⊎_, inl, inr, _↔_}
 use mathlib.Core.List.{List, [], _∷_, _++_, append-nil}
 use native.Mathlib.Omega.{arith}
@@ -13,8 +12,9 @@ use Rattle.table.specs.Meaning.{Line, Table}
 use Rattle.table.specs.Text.{linesOf}
 use Rattle.table.specs.Header.{lineOf}
 use Rattle.table.specs.Mapping.{Form, noForm, reserved, blank, ending, mapping, mappedOf, lastOf}
-use Rattle.table.specs.Numbers.{Cond, cond, lowest, keyConditions, charmapConditions, mappingConditions}
-use Rattle.table.specs.Load.{Reading, Step, went, stop, judged, Judge, lineAs, headerStep, mappingStep, lastStep, phaseStep, stepOf, tableOf, accepted, refused, outcomeAt, loadGo, start, loadOf}
+use Rattle.table.specs.Numbers.{lowest}
+use Rattle.table.specs.Load.{Reading, went, judged, lineAs, headerStep, mappingStep, lastStep, phaseStep, stepOf, tableOf, accepted, refused, outcomeAt, loadGo, start, loadOf}
+use Rattle.table.specs.FirstLine.{headerConditions, mappedConditions, lastConditions, phaseConditions, conditionsAt, unasked, readIn, behind, behindAll, Quiet, FirstHolds, NeverEnds, AllQuiet}
 use Rattle.table.specs.declared.header.Head.{Head}
 use Rattle.table.specs.declared.header.Line.{Line as HeaderLine}
 use Rattle.table.specs.declared.header.Line.the-variants as header
@@ -24,80 +24,8 @@ use Rattle.table.specs.declared.load.Verdict.{Verdict}
 use Rattle.table.specs.declared.load.Verdict.the-variants.{Fine, Refuse}
 use Rattle.table.specs.declared.load.Phase.{Phase}
 use Rattle.table.specs.declared.load.Phase.the-variants.{Header, Mappings, Ended}
-use Rattle.table.proofs.LowestLaws.{NoneHolds, HoldsLowest, byNumber, key-rises, charmap-rises, mapping-rises, lowest-fine, fine-lowest, lowest-holds, holds-lowest}
+use Rattle.table.proofs.LowestLaws.{byNumber, key-rises, charmap-rises, mapping-rises, lowest-fine, fine-lowest, lowest-holds, holds-lowest}
 use Rattle.table.proofs.Accepted.{refused-accepted, accepted-same, stop-outcome}
-
--- the conditions at a line, given what came before it: 10 at a line of no form, 14 at one reserved, else the table of its kind
-abbrev pub headerConditions : Limits → Head → List (List ℕ) → HeaderLine → List Cond
-headerConditions lim h rows header.NoForm = cond refusal.NoForm true ∷ []
-headerConditions lim h rows header.Blank = []
-headerConditions lim h rows header.Charmap = charmapConditions h rows
-headerConditions lim h rows (header.Known k v q e) = keyConditions lim h k v
-
-abbrev pub mappedConditions : Limits → Head → List (List ℕ) → List Line → Form → List Cond
-mappedConditions lim h rows ls noForm = cond refusal.NoForm true ∷ []
-mappedConditions lim h rows ls reserved = cond refusal.NotBuilt true ∷ []
-mappedConditions lim h rows ls blank = []
-mappedConditions lim h rows ls ending = []
-mappedConditions lim h rows ls (mapping u c d) = mappingConditions lim h rows ls (lineAs u c d)
-
-abbrev pub lastConditions : Form → List Cond
-lastConditions noForm = cond refusal.NoForm true ∷ []
-lastConditions reserved = cond refusal.NotBuilt true ∷ []
-lastConditions blank = []
-lastConditions ending = cond refusal.NoForm true ∷ []
-lastConditions (mapping u c d) = cond refusal.NoForm true ∷ []
-
-abbrev pub phaseConditions : Limits → Phase → Head → List (List ℕ) → List Line → List ℕ → List Cond
-phaseConditions lim Header h rows ls s = headerConditions lim h rows (lineOf s)
-phaseConditions lim Mappings h rows ls s = mappedConditions lim h rows ls (mappedOf s)
-phaseConditions lim Ended h rows ls s = lastConditions (lastOf s)
-
-abbrev pub conditionsAt : Limits → Reading → List ℕ → List Cond
-conditionsAt lim r s = phaseConditions lim (r .phase) (r .head) (r .rows) (r .lines) s
-
--- what is read behind a line, and behind several, with no condition asked
-abbrev pub unasked : Judge
-unasked cs = Fine
-
-abbrev pub readIn : Reading → Step → Reading
-readIn r (went q) = q
-readIn r (stop x) = r
-
-abbrev pub behind : Limits → Reading → List ℕ → Reading
-behind lim r s = readIn r (stepOf unasked lim r s)
-
-unfoldable pub behindAll : Limits → Reading → List (List ℕ) → Reading
-behindAll lim r [] = r
-behindAll lim r (l ∷ ls) = behindAll lim (behind lim r l) ls
-
--- no condition holds at any of these lines
-abbrev pub Quiet : Limits → Reading → List (List ℕ) → Type 0
-Quiet lim r [] = Unit {0}
-Quiet lim r (l ∷ ls) = NoneHolds (conditionsAt lim r l) × Quiet lim (behind lim r l) ls
-
--- x is named at line k: no condition holds at the lines before it, and at it x holds with the lowest number
-pub record FirstHolds (lim : Limits) (ls : List (List ℕ)) (x : Refusal) (k : ℕ) : Type 0 where
-  pub earlier : List (List ℕ)
-  pub line : List ℕ
-  pub later : List (List ℕ)
-  pub lines-are : ls ≡ earlier ++ line ∷ later
-  pub counted : k ≡ length earlier + 1
-  pub quiet : Quiet lim start earlier
-  pub named : HoldsLowest x (conditionsAt lim (behindAll lim start earlier) line)
-
--- 27: no condition holds at any line, and END CHARMAP did not come
-pub record NeverEnds (lim : Limits) (ls : List (List ℕ)) (x : Refusal) (k : ℕ) : Type 0 where
-  pub number : x ≡ refusal.NoEnd
-  pub counted : k ≡ length ls + 1
-  pub quiet : Quiet lim start ls
-  pub unended : behindAll lim start ls .phase ≡ Ended → ⊥
-
--- no condition holds at any line, and END CHARMAP came
-pub record AllQuiet (lim : Limits) (ls : List (List ℕ)) (t : Table) : Type 0 where
-  pub quiet : Quiet lim start ls
-  pub ended : behindAll lim start ls .phase ≡ Ended
-  pub table : t ≡ tableOf (behindAll lim start ls)
 
 -- a line is judged by its conditions
 header-judged : (lim : Limits) (r : Reading) (h : Head) (rows : List (List ℕ)) (s : List ℕ) (x : HeaderLine)

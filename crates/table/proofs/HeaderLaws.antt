@@ -1,18 +1,18 @@
 -- Laws of header lines: the verdict on a line, ranges of values, the rows that lines give.
-use mathlib.Core.Path.{_≡_, refl, sym, ap, _∙_, subst}
+use mathlib.Core.Path.{_≡_, refl, sym, subst}
 use mathlib.Core.Bool.{Bool, true, false}
-use mathlib.Core.Logic.{inl, inr}
 use mathlib.Core.List.{List, [], _∷_, _++_}
 use Prim.Native.Nat.{ℕ, _+_, _-_, _/_, _<_, _≤_}
 use native.Mathlib.Omega.{arith}
 use lib.Dec.{ltb, leb, eqb}
 use lib.ListN.{length, getD, take, drop, replicate, length-replicate}
-use borrow.Author.Tests.{lt-ltb, leb-false, leb-true, ltb-true, eqb-false}
+use borrow.Author.Tests.{leb-false, leb-true, eqb-false}
 use Rattle.lists.specs.Pick.{pick}
-use Rattle.lists.specs.Order.{All, In, Rising, risesFrom, rises}
+use Rattle.lists.specs.Order.{All}
 use Rattle.lists.proofs.Laws.{clash, both}
-use Rattle.lists.proofs.Order.{all-map, all-in, all-of, rises-is}
+use Rattle.lists.proofs.Order.{all-map, all-of}
 use Rattle.lists.proofs.Cases.{pick-case}
+use Rattle.lists.proofs.Chains.{either-rest}
 use Rattle.lists.proofs.AllParts.{all-same}
 use Rattle.table.specs.declared.header.Line.{Line}
 use Rattle.table.specs.declared.text.Num.{Num}
@@ -30,23 +30,21 @@ use Rattle.table.specs.declared.header.Value.{Value}
 use Rattle.table.specs.declared.header.Value.the-variants.{Unfit, Any, Later, Name, Min, Max, Class, Sub, Sub1, Row}
 use Rattle.table.specs.declared.header.Line.the-variants.{NoForm, Blank, Charmap, Known}
 use Rattle.table.specs.declared.header.Head.{Head}
-use Rattle.table.specs.declared.load.Refusal.{Refusal}
-use Rattle.table.specs.declared.load.Verdict.{Verdict}
 use Rattle.table.specs.declared.load.Verdict.the-variants.{Fine, Refuse}
 use Rattle.table.specs.Text.{byteOf, skipAt, endsAt, contentEnd, byteAt, joinAt, Series, withByte, bytesMore, bytesFrom, bytesAt, runOf, isCharmap, series, broken}
 use Rattle.table.specs.Row.{wellAt, painted, openAt, columnsOf, rowOf}
 use Rattle.table.specs.Header.{keyEnd, keyOf, quotedOf, nameIn, className, classIn, digitIn, minIn, maxIn, subIn, sub1Value, rowFrom, rowIn, valueOf, isRow, keyLine, keyedLine, lineAt, lineOf, InRange}
-use Rattle.table.specs.Numbers.{numberOf, n11, n12, n14, rowOver, n15, Cond, cond, lowest, keyConditions, charmapConditions, mappingConditions}
+use Rattle.table.specs.Numbers.{n11, n12, n14, rowOver, n15, lowest, keyConditions}
 use Rattle.table.specs.Load.{keepRow}
 use Rattle.table.specs.Limits.{Limits, limits}
-use Rattle.table.specs.Meaning.{same, Line as Mapping}
+use Rattle.table.specs.Meaning.{same}
 use Rattle.table.specs.Rules.{allOf}
 use Rattle.table.specs.Codes.{packed, unpacked, AllByte}
 use Rattle.table.specs.Memory.{known}
 use Rattle.table.proofs.LowestLaws.{lowest-fine}
 use Rattle.table.proofs.Packing.{length-unpacked, unpacked-bytes, packed-fits, packed-padded, pack-unpack}
 use Rattle.table.proofs.TextLaws.{scan, ends-inside, Forth, byte-forth, SeriesByte, more-bytes}
-use Rattle.table.proofs.RowText.{Bounded, columns-bounded, painted-length, painted-all, meaning-known, meaning-below}
+use Rattle.table.proofs.RowText.{Bounded, columns-bounded, painted-length, painted-all, meaning-known}
 use Rattle.table.specs.declared.load.Refusal.the-variants as refusal
 
 -- a key's line, condition by condition
@@ -232,11 +230,7 @@ over-room lim rows (Max d) r e = absurd (clash r refl)
 over-room lim rows (Class c) r e = absurd (clash r refl)
 over-room lim rows (Sub b n) r e = absurd (clash r refl)
 over-room lim rows (Sub1 b) r e = absurd (clash r refl)
-over-room lim rows (Row w l o) r e = or-right o (leb (lim .rows) rows) e
-  where
-    or-right : (a b : Bool) → pick a true b ≡ false → b ≡ false
-    or-right true b e = absurd (clash refl e)
-    or-right false b e = e
+over-room lim rows (Row w l o) r e = either-rest o (leb (lim .rows) rows) e
 
 pub row-room : (h : Head) (k : Key) (v : Value) → lowest (keyConditions limits h k v) ≡ Fine → isRow v ≡ true → h .rows < 16
 unfolding keyConditions
@@ -275,13 +269,6 @@ unfolding rowOf
 row-known s =
     all-true known (painted (columnsOf s) (replicate 256 0))
     (painted-all (λ x. known x ≡ true) (columnsOf s) (replicate 256 0) (all-of (columnsOf s) (λ c i. meaning-known c)) (all-same (λ x. known x ≡ true) 256 0 refl))
-
--- and has sixteen bits
-pub row-below : (s : List ℕ) → All (λ x. x < 65536) (rowOf (columnsOf s))
-unfolding rowOf
-row-below s =
-    painted-all (λ x. x < 65536) (columnsOf s) (replicate 256 0) (all-map (λ c (b : Bounded c). meaning-below c (b .1)) (columnsOf s) (columns-bounded s))
-    (all-same (λ x. x < 65536) 256 0 (omega arith))
 
 -- subchar as a code, and its bytes
 pub sub-bytes : (b n : ℕ) → InRange (Sub b n) → (length (unpacked n b) ≡ n) × AllByte (unpacked n b) × (packed (unpacked n b) ≡ b)

@@ -39,9 +39,9 @@ use Rattle.table.specs.declared.load.Went.the-variants as outcome
 use Rattle.table.proofs.RowLaws.{length-flat, filled-steps}
 use Rattle.table.proofs.Depth.{states-test}
 use Rattle.table.proofs.Every.{every-append, every-replicate}
-use Rattle.table.proofs.Sorted.{filled-take, filled-zeros}
+use Rattle.table.proofs.Sorted.{fill-put, filled-take, filled-zeros}
 use Rattle.table.proofs.HeaderLaws.{row-room, row-length, row-known, keep-row}
-use Rattle.table.proofs.LineSteps.{fine-taken, fill-put}
+use Rattle.table.proofs.LineSteps.{fine-taken}
 
 -- the header with a value in it
 keep-proper : (h : Head) (v : Value) → InRange v → ProperHead h → ProperHead (keep h v)

@@ -11,12 +11,11 @@ use Rattle.lists.specs.Pick.{pick}
 use Rattle.lists.specs.Order.{All, firstOf}
 use Rattle.lists.proofs.Order.{all-in}
 use Rattle.lists.proofs.First.{first-found}
-use Rattle.table.specs.Codes.{unpacked, bytesOf, AllByte}
+use Rattle.table.specs.Codes.{unpacked, bytesOf}
 use Rattle.table.specs.Meaning.{Line, same}
 use Rattle.table.specs.Progress.{GoodLine}
 use Rattle.table.specs.Entry.{Entry, mk, extraIn, entryOf, lineIn, padded, entryOk}
 use Rattle.table.specs.declared.states.Code.{Code}
-use Rattle.table.specs.declared.store.Found.{Found}
 use Rattle.table.specs.declared.store.Found.the-variants.{Hit, Nothing}
 use Rattle.table.proofs.Packing.{length-unpacked, unpacked-bytes, pack-unpack}
 use Rattle.table.proofs.LineLaws.{ok-padded, padded-length, line-entry, entry-of-ok, same-packed, foundLine}

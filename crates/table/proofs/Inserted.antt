@@ -3,28 +3,27 @@ use mathlib.Core.Path.{_≡_, refl, sym, ap, _∙_, subst}
 use mathlib.Core.Bool.{Bool, true, false}
 use mathlib.Core.Logic.{inl, inr}
 use mathlib.Core.List.{List, [], _∷_, _++_, append-assoc, map, map-append}
-use Prim.Native.Nat.{ℕ, zero, suc, _+_, _-_, _<_, _≤_}
+use Prim.Native.Nat.{ℕ, zero, suc, _+_, _<_, _≤_}
 use native.Mathlib.Numerals.{add-one}
 use native.Mathlib.Nat.{sub-self}
 use native.Mathlib.Omega.{arith}
-use lib.ListN.{length, getD, take, drop, set, length-map, replicate}
-use lib.Seq.{take-suc, set-at, getD-at, getD-take, take-suc-set, drop-set-lt, set-split, append-snoc, take-take, take-at, drop-at, drop-drop, length-take-le, take-append-add}
+use lib.ListN.{length, getD, take, drop, set, length-map}
+use lib.Seq.{take-suc, set-at, getD-at, getD-take, take-suc-set, drop-set-lt, set-split, append-snoc, take-take, take-at, drop-at, drop-drop, length-take-le}
 use lib.Dec.{leb, lit<}
 use borrow.Author.Tests.{le-leb, lt-leb, leb-true, leb-false}
 use Rattle.lists.specs.Order.{All, Rising, lead, insert, Comparable, sort}
+use Rattle.lists.proofs.Front.{drop-take}
 use Rattle.lists.proofs.Laws.{drop-step}
+use Rattle.lists.proofs.Parts.{left-step}
 use Rattle.lists.proofs.Order.{all-at, all-map, all-of, pairs-map, insert-lead, insert-rising, insert-all, insert-length, insert-pairs, lead-map, map-all, map-pairs, lead-le}
 use Rattle.table.specs.Entry.{Entry, bitsOf, infoOf, extraIn, less, pointLess, Apart, entryOf}
-use Rattle.table.specs.Memory.{entries, entryAt, nth, indexLess, orderOf, filled, sorted}
+use Rattle.table.specs.Memory.{entries, entryAt, nth, indexLess, orderOf, sorted}
 use Rattle.table.specs.Meaning.{Line}
 use Rattle.table.specs.Valid.{Kept}
 use Rattle.table.specs.Search.{shiftIn, bump, placeIn, pointPlaceIn, picked, Ready, readTaken, writeTaken}
 use Rattle.table.proofs.EntryLaws.{less-trans, less-apart, point-apart, read-sym, write-sym, apart-differ}
-use Rattle.table.proofs.Sorted.{form-store, entries-back, drop-take, filled-long, entries-length, entries-codes, entries-infos, all-nth, index-trans, order-rising, order-length, order-in, order-unique}
+use Rattle.table.proofs.Sorted.{form-store, entries-back, fill-put, filled-long, entries-length, entries-codes, entries-infos, all-nth, index-trans, order-rising, order-length, order-in, order-unique}
 use Rattle.table.proofs.StoreLaws.{bits-count, infos-count, order-count, order-held, held-is, held-rising, free-apart, ok-few, ok-codes, ok-infos}
-
-count-step : (n i : ℕ) → i < n → n - i ≡ suc (n - (i + 1))
-count-step n i h = omega arith
 
 -- one turn: the carried element is stored at i, and the one that stood there is carried on
 pub shift-step : (n i c : ℕ) (l : List ℕ) → i < n → n < length l → shiftIn n i c l ≡ shiftIn n (i + 1) (getD l i 0) (set l i c)
@@ -34,7 +33,7 @@ shift-step n i c l lt fits =
     let ni : i < n + 1 = omega arith in
     let si : i < i + 1 = omega arith in
     let tk : take (i + 1) (set l i c) ≡ take i l ++ (c ∷ []) = rw add-one (take-suc-set l i c li) in
-    rw (drop-set-lt (n + 1) l i c ni, drop-set-lt (i + 1) l i c si, tk, append-snoc, drop-step l i li, count-step n i lt)
+    rw (drop-set-lt (n + 1) l i c ni, drop-set-lt (i + 1) l i c si, tk, append-snoc, drop-step l i li, left-step n i lt)
 
 pub shift-end : (n c : ℕ) (l : List ℕ) → n < length l → set l n c ≡ shiftIn n n c l
 unfolding shiftIn
@@ -274,21 +273,6 @@ module _ (limit n : ℕ) (codes infos order : List ℕ) (k : Kept limit n codes 
     fresh = subst (λ (l : List Entry). All (λ x. x ≡ e → ⊥) l) (sym (held-is limit n codes infos order k)) (all-map (λ x w p. apart-differ e x (w .0) (w .1) (sym p)) (k .es) apart);
   }
 
-  zero-tail : (k : ℕ) → drop {A = ℕ} 1 (replicate k 0) ≡ replicate (k - 1) 0
-  zero-tail zero = refl
-  zero-tail (suc k) = let z : suc k - 1 ≡ k = omega arith in rw z
-
-  fill-next : (xs ys l : List ℕ) → length xs ≡ n → length ys ≡ n + 1 → take limit l ≡ filled limit xs → take limit (ys ++ drop (n + 1) l) ≡ filled limit ys
-  unfolding filled
-  fill-next xs ys l a b q =
-      let split : limit ≡ length ys + (limit - (n + 1)) = omega arith in
-      let tail : take (limit - (n + 1)) (drop (n + 1) l) ≡ replicate (limit - (n + 1)) 0 =
-      sym (drop-take (n + 1) limit l) ∙ ap (λ (m : List ℕ). drop (n + 1) m) q ∙ sym (drop-drop 1 n (xs ++ replicate (limit - length xs) 0))
-      ∙ ap (λ (m : List ℕ). drop 1 m) (drop-at xs (replicate (limit - length xs) 0) n a) ∙ zero-tail (limit - length xs)
-      ∙ ap (λ (m : ℕ). replicate m 0) (let z : limit - length xs - 1 ≡ limit - (n + 1) = omega arith in z) in
-      ap (λ (m : ℕ). take m (ys ++ drop (n + 1) l)) split ∙ take-append-add ys (drop (n + 1) l) (limit - (n + 1))
-      ∙ ap (λ (m : List ℕ). ys ++ m) (tail ∙ ap (λ (m : ℕ). replicate m 0) (let z : limit - (n + 1) ≡ limit - length ys = omega arith in z))
-
   new-count : length (insert less e (k .es)) ≡ n + 1
   new-count = insert-length less e (k .es) ∙ ap suc (k .count) ∙ sym (add-one n)
 
@@ -304,9 +288,9 @@ module _ (limit n : ℕ) (codes infos order : List ℕ) (k : Kept limit n codes 
     apart = insert-pairs less {R = Apart} (λ a b w. (read-sym a b (w .0), write-sym a b (w .1))) e (k .es) apart (k .apart);
     stored = record {
       fits = omega (arith, new-count);
-      codes-are = fill-next (map bitsOf (k .es)) (map bitsOf (insert less e (k .es))) codes (bits-count limit n codes infos order k) (length-map (insert less e (k .es)) bitsOf ∙ new-count) (k .stored .codes-are);
-      infos-are = fill-next (map infoOf (k .es)) (map infoOf (insert less e (k .es))) infos (infos-count limit n codes infos order k) (length-map (insert less e (k .es)) infoOf ∙ new-count) (k .stored .infos-are);
-      order-is = fill-next (orderOf (k .es)) (orderOf (insert less e (k .es))) order (order-count limit n codes infos order k) (order-length (insert less e (k .es)) ∙ new-count) (k .stored .order-is);
+      codes-are = fill-put limit n 1 (map bitsOf (k .es)) (map bitsOf (insert less e (k .es))) codes (bits-count limit n codes infos order k) (length-map (insert less e (k .es)) bitsOf ∙ new-count) (omega arith) (k .stored .codes-are);
+      infos-are = fill-put limit n 1 (map infoOf (k .es)) (map infoOf (insert less e (k .es))) infos (infos-count limit n codes infos order k) (length-map (insert less e (k .es)) infoOf ∙ new-count) (omega arith) (k .stored .infos-are);
+      order-is = fill-put limit n 1 (orderOf (k .es)) (orderOf (insert less e (k .es))) order (order-count limit n codes infos order k) (order-length (insert less e (k .es)) ∙ new-count) (omega arith) (k .stored .order-is);
     };
   })
 

@@ -25,6 +25,7 @@ use Rattle.table.specs.Header.{keyLine, keyedLine, keyEnd, keyOf, lineAt
 use Rattle.table.specs.Mapping.{Form, noForm, reserved, blank, ending, mapping, mappedOf, lastOf}
 use Rattle.table.specs.Numbers.{lowest, n13, n15, rowOver, n16, n20, n21, n22, n23, n24, n25, n26, rowsAt, keyConditions, charmapConditions, mappingConditions}
 use Rattle.table.specs.Load.{Reading, went, stop, judged, keep, keepRow, headAt, lineAs, headerStep, mappingStep, lastStep, phaseStep, stepOf}
+use Rattle.table.specs.FirstLine.{NoneHolds}
 use Rattle.table.specs.declared.text.Place.{Place}
 use Rattle.table.specs.declared.text.Place.the-variants.{At, No}
 use Rattle.table.specs.declared.states.Code.{Code}
@@ -44,7 +45,7 @@ use Rattle.table.proofs.Every.{every-flat, every-replicate}
 use Rattle.table.specs.Header.{InRange}
 use Rattle.table.proofs.HeaderLaws.{value-ranges, row-length, row-known}
 use Rattle.table.proofs.MappingLaws.{form-bytes}
-use Rattle.table.proofs.LowestLaws.{NoneHolds, lowest-fine}
+use Rattle.table.proofs.LowestLaws.{lowest-fine}
 
 -- a line's outcome
 pub stop-went : (x : Refusal) (r : Reading) → stop x ≡ went r → ⊥

@@ -1,24 +1,25 @@
 -- What an accepted load leaves is the form of its table, and passes the test behind 60.
-use Prim.Native.Nat.{ℕ, _*_, _≤_}
+use Prim.Native.Nat.{ℕ, _≤_}
 use mathlib.Core.Path.{_≡_, refl, _∙_}
 use mathlib.Core.Bool.{true}
-use mathlib.Core.List.{List, [], _∷_, map}
+use mathlib.Core.List.{List, map}
 use native.Mathlib.Omega.{arith}
 use lib.Dec.{leb, lit≤}
-use lib.ListN.{length, take, drop, length-append, length-map, length-replicate}
+use lib.ListN.{length, take, drop, length-map}
 use lib.Seq.{take-at}
 use borrow.Author.Tests.{leb-true}
-use Rattle.lists.specs.Order.{All, upFrom}
 use Rattle.lists.proofs.Laws.{both-right}
-use Rattle.lists.proofs.Order.{sort-length, upFrom-length}
+use Rattle.lists.proofs.Order.{sort-length}
 use Rattle.table.specs.Limits.{Limits, limits, needed}
 use Rattle.table.specs.Meaning.{Table, flat}
 use Rattle.table.specs.Rules.{Keeps}
-use Rattle.table.specs.Entry.{Entry, bitsOf, infoOf, entryOf, less}
-use Rattle.table.specs.Memory.{indexLess, orderOf, filled, sorted, recordOf, Stored, Form, Proper}
+use Rattle.table.specs.Entry.{bitsOf, infoOf, entryOf, less}
+use Rattle.table.specs.Memory.{filled, sorted, recordOf, Stored, Form, Proper}
 use Rattle.table.specs.Valid.{valid}
 use Rattle.table.specs.Load.{accepted, loadOf, read, leftBy, statesOf, codesOf, infosOf, orderedOf}
 use Rattle.table.specs.declared.valid.Record.{Record}
+use Rattle.table.proofs.RowLaws.{length-flat}
+use Rattle.table.proofs.Sorted.{order-length, filled-length}
 use Rattle.table.proofs.Accepted.{accepted-keeps-rules, accepted-proper}
 
 -- the form of a table that keeps the rules passes the test
@@ -40,20 +41,6 @@ module _
   pub load-leaves-valid : FormValid → valid limits (recordOf t) states codes infos order ≡ true
   load-leaves-valid form-valid =
       form-valid t (accepted-proper limits text t loaded) (accepted-keeps-rules limits text t (lit≤ tt) loaded) (recordOf t) states codes infos order load-leaves-form
-
--- how many numbers a table gives
-length-flat : (rows : List (List ℕ)) → All (λ r. length r ≡ 256) rows → length (flat rows) ≡ length rows * 256
-unfolding flat
-length-flat [] h = refl
-length-flat (r ∷ rows) h = let e = length-flat rows (h .1) in let q = h .0 in rw (length-append r (flat rows)) (omega arith)
-
-order-length : (es : List Entry) → length (orderOf es) ≡ length es
-unfolding orderOf
-order-length es = sort-length (indexLess es) (upFrom 0 (length es)) ∙ upFrom-length 0 (length es)
-
-filled-length : (n : ℕ) (xs : List ℕ) → length xs ≤ n → length (filled n xs) ≡ n
-unfolding filled
-filled-length n xs h = simp (length-append, length-replicate) (omega arith)
 
 -- a lent slice afterwards, as far as it is needed
 left-taken : (n : ℕ) (numbers : Table → List ℕ) (t : Table) (old : List ℕ) → length (numbers t) ≤ n → take n (leftBy n numbers (read (accepted t)) old) ≡ filled n (numbers t)
@@ -79,10 +66,3 @@ left-form lim text t states codes infos order one e =
         order-is = left-taken (lim .mappings) orderedOf t order (let l = order-length (sorted (t .lines)) in omega arith);
       };
     }
-
-pub left-valid : FormValid → (text : List ℕ) (t : Table) (states codes infos order : List ℕ) → loadOf limits text ≡ accepted t
-    → valid limits (recordOf t) (leftBy (needed limits) statesOf (read (accepted t)) states) (leftBy (limits .mappings) codesOf (read (accepted t)) codes)
-    (leftBy (limits .mappings) infosOf (read (accepted t)) infos) (leftBy (limits .mappings) orderedOf (read (accepted t)) order) ≡ true
-left-valid form-valid text t states codes infos order e =
-    let f = left-form limits text t states codes infos order (lit≤ tt) e in
-    load-leaves-valid text t _ _ _ _ e (f .states-are) (f .mappings-are) form-valid

@@ -5,6 +5,7 @@ pub mod Packing
 mod Marking
 pub mod CodeOrder
 pub mod CodeList
+pub mod CodeCount
 pub mod Between
 pub mod Marks
 pub mod TextLaws

@@ -1,7 +1,7 @@
 -- A stored line and the line itself: the rules in numbers, one form for one line.
 use mathlib.Core.Path.{_≡_, refl, sym, ap, _∙_, subst}
 use mathlib.Core.Bool.{Bool, true, false}
-use mathlib.Core.Logic.{_⊎_, inl, inr}
+use mathlib.Core.Logic.{inl, inr}
 use mathlib.Core.Option.{Option, none, some}
 use mathlib.Core.List.{List, [], _∷_, map}
 use Prim.Native.Nat.{ℕ, zero, suc, _+_, _-_, _*_, _/_, _%_, _<_, _≤_}
@@ -13,7 +13,8 @@ use borrow.Author.Tests.{eqb-true, eqb-false, eq-eqb, ne-eqb, leb-true, le-leb, 
 use Rattle.lists.specs.Pick.{pick}
 use Rattle.lists.specs.Order.{All, In, firstOf, sort}
 use Rattle.lists.proofs.Order.{all-in, all-map, all-of, in-sort, sort-in, sort-length}
-use Rattle.lists.proofs.Choice.{same-test, pick-no, pick-self, both-swap}
+use Rattle.lists.proofs.Choice.{same-test, pick-false, pick-self, both-swap}
+use Rattle.lists.proofs.Chains.{bar-first, bar-rest, either-first, either-rest, neither}
 use Rattle.lists.proofs.First.{first-found}
 use Rattle.lists.proofs.Laws.{clash, both, both-left, both-right}
 use Rattle.table.specs.Limits.{Limits, limits}
@@ -102,7 +103,7 @@ module _ (e : Entry) where
   same-one : (n v b : ℕ) → same (unpacked (n + 1) v) (b ∷ []) ≡ pick (eqb n 0) (eqb (v / 16777216) b) false
   unfolding same unpacked
   same-one zero v b = pick-self (eqb (v / 16777216) b)
-  same-one (suc n) v b = rw (add-one (suc n), ne-eqb (suc n) 0 (λ e. omega arith)) (pick-no (eqb (v / 16777216) b))
+  same-one (suc n) v b = rw (add-one (suc n), ne-eqb (suc n) 0 (λ e. omega arith)) (pick-false (eqb (v / 16777216) b))
 
   t8-byte : (sub1 : ℕ) → t8Byte (sub1In sub1) bytes ≡ pick (eqb sub1 0) false (pick (eqb extra 0) (eqb (e .bits / 16777216) (sub1 - 1)) false)
   t8-byte sub1 = go (eqb sub1 0)
@@ -370,29 +371,14 @@ module _ (a b : Line) (g : GoodLine a) (h : GoodLine b) where
       ∙ sym (λ t. pick (eqb (entry-point a g t) (entry-point b h t)) (pick (entry-writes a g t) (entry-writes b h t) false) false)
 
 -- T9 of a list of lines is that no two of the stored ones clash
-either-left : (a b : Bool) → pick a true b ≡ false → a ≡ false
-either-left true b h = h
-either-left false b h = refl
-
-either-right : (a b : Bool) → pick a true b ≡ false → b ≡ false
-either-right true b h = absurd (clash refl h)
-either-right false b h = h
-
-if-not : (a b : Bool) → pick a false b ≡ true → (a ≡ false) × (b ≡ true)
-if-not true b h = absurd (clash h refl)
-if-not false b h = (refl, h)
-
-neither : (a b : Bool) → a ≡ false → b ≡ false → pick a true b ≡ false
-neither a b p q = rw (p, q)
-
 apart-line : (l : Line) (ls : List Line) → GoodLine l → All GoodLine ls → anyOf (λ x. sharesBytes x l) ls ≡ false → anyOf (λ x. sharesPoint x l) ls ≡ false → All (Apart (entryOf l)) (map entryOf ls)
 unfolding anyOf
 apart-line l [] g gs p q = tt
 apart-line l (x ∷ ls) g gs p q =
-    let p1 = either-left (sharesBytes x l) (anyOf (λ y. sharesBytes y l) ls) p in
-    let q1 = either-left (sharesPoint x l) (anyOf (λ y. sharesPoint y l) ls) q in (
+    let p1 = either-first (sharesBytes x l) (anyOf (λ y. sharesBytes y l) ls) p in
+    let q1 = either-first (sharesPoint x l) (anyOf (λ y. sharesPoint y l) ls) q in (
       (read-sym (entryOf x) (entryOf l) (sym (shares-bytes x l (gs .0) g) ∙ p1), write-sym (entryOf x) (entryOf l) (sym (shares-point x l (gs .0) g) ∙ q1)),
-      apart-line l ls g (gs .1) (either-right (sharesBytes x l) (anyOf (λ y. sharesBytes y l) ls) p) (either-right (sharesPoint x l) (anyOf (λ y. sharesPoint y l) ls) q),
+      apart-line l ls g (gs .1) (either-rest (sharesBytes x l) (anyOf (λ y. sharesBytes y l) ls) p) (either-rest (sharesPoint x l) (anyOf (λ y. sharesPoint y l) ls) q),
     )
 
 line-apart : (l : Line) (ls : List Line) → GoodLine l → All GoodLine ls → All (Apart (entryOf l)) (map entryOf ls) → (anyOf (λ x. sharesBytes x l) ls ≡ false) × (anyOf (λ x. sharesPoint x l) ls ≡ false)
@@ -410,9 +396,8 @@ t9-apart [] gs h = tt
 t9-apart (l ∷ ls) gs h =
     let b = anyOf (λ x. sharesBytes x l) ls in
     let p = anyOf (λ x. sharesPoint x l) ls in
-    let h1 = if-not b (pick p false (t9 ls)) h in
-    let h2 = if-not p (t9 ls) (h1 .1) in
-    (apart-line l ls (gs .0) (gs .1) (h1 .0) (h2 .0), t9-apart ls (gs .1) (h2 .1))
+    let r = bar-rest b (pick p false (t9 ls)) h in
+    (apart-line l ls (gs .0) (gs .1) (bar-first b (pick p false (t9 ls)) h) (bar-first p (t9 ls) r), t9-apart ls (gs .1) (bar-rest p (t9 ls) r))
 
 pub apart-t9 : (ls : List Line) → All GoodLine ls → AllApart (map entryOf ls) → t9 ls ≡ true
 unfolding t9

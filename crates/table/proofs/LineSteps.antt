@@ -1,15 +1,11 @@
 -- A line's outcome: what is answered, and what the memory holds then, whatever part of the text is read.
-use Prim.Native.Nat.{ℕ, _+_, _-_, _≤_}
+use Prim.Native.Nat.{ℕ}
 use mathlib.Core.Path.{_≡_, refl, sym, ap, subst, _∙_}
-use mathlib.Core.List.{List, _++_}
-use native.Mathlib.Omega.{arith}
-use lib.ListN.{length, take, drop, replicate}
-use lib.Seq.{drop-at, take-append-add, drop-drop}
-use Rattle.lists.proofs.Front.{drop-same}
+use mathlib.Core.List.{List}
+use lib.ListN.{length, drop}
 use Rattle.table.specs.Limits.{Limits, limits}
 use Rattle.table.specs.Meaning.{Line}
 use Rattle.table.specs.Codes.{packed}
-use Rattle.table.specs.Memory.{filled}
 use Rattle.table.specs.Mapping.{Form, noForm, reserved, blank, ending, mapping, codedForm}
 use Rattle.table.specs.Numbers.{lowest}
 use Rattle.table.specs.Load.{Reading, went, judged, reading, mappingStep, lastStep, phaseStep}
@@ -24,7 +20,6 @@ use Rattle.table.specs.declared.load.Phase.{Phase}
 use Rattle.table.specs.declared.load.Progress.{Progress}
 use Rattle.table.specs.declared.load.Went.{Went}
 use Rattle.table.specs.declared.load.Went.the-variants as outcome
-use Rattle.table.proofs.Sorted.{drop-take}
 
 -- a line that is refused, and one that is let through
 pub refused-taken : (lim : Limits) (v : Verdict) (g : Reading) (x : Refusal) (s c i o : List ℕ) → v ≡ Refuse x → Taken lim (judged v g) (outcome.Stop x) s c i o
@@ -74,15 +69,3 @@ form-as (mapping u l d) = (l, (refl, refl, refl))
 
 pub form-is : (f : Form) (m x : Mapped) → m ≡ codedForm f → m ≡ x → FormAs x f
 form-is f m x e q = subst (λ (y : Mapped). FormAs y f) (sym e ∙ q) (form-as f)
-
--- numbers with zeros behind them, of which the first are written anew
-pub fill-put : (n a m : ℕ) (xs ys l : List ℕ) → length xs ≡ a → length ys ≡ a + m → a + m ≤ n → take n l ≡ filled n xs → take n (ys ++ drop (a + m) l) ≡ filled n ys
-unfolding filled
-fill-put n a m xs ys l e f h q =
-    let split : n ≡ length ys + (n - (a + m)) = omega arith in
-    let tail : take (n - (a + m)) (drop (a + m) l) ≡ replicate (n - (a + m)) 0 =
-    sym (drop-take (a + m) n l) ∙ ap (λ (z : List ℕ). drop (a + m) z) q ∙ sym (drop-drop m a (xs ++ replicate (n - length xs) 0))
-    ∙ ap (λ (z : List ℕ). drop m z) (drop-at xs (replicate (n - length xs) 0) a e) ∙ drop-same m (n - length xs) 0 (omega arith)
-    ∙ ap (λ (k : ℕ). replicate k 0) (let z : n - length xs - m ≡ n - (a + m) = omega arith in z) in
-    ap (λ (k : ℕ). take k (ys ++ drop (a + m) l)) split ∙ take-append-add ys (drop (a + m) l) (n - (a + m))
-    ∙ ap (λ (z : List ℕ). ys ++ z) (tail ∙ ap (λ (k : ℕ). replicate k 0) (let z : n - (a + m) ≡ n - length ys = omega arith in z))

@@ -65,7 +65,7 @@ unfolding linesOf firstLine restLines crBefore onto
 lines-step b [] = last-pick (eqb b 10) b
 lines-step b (d ∷ ds) = lines-pick (eqb b 10) (crBefore b (d ∷ ds)) b (d ∷ ds) (lines-step d ds)
 
--- the same where a cursor stands
+-- the same from a place on
 pub lines-at : (s : List ℕ) (at : ℕ) → at < length s → linesOf (drop at s) ≡ firstLine (drop at s) ∷ linesOf (restLines (drop at s))
 lines-at s at h = rw (drop-step s at h) (lines-step _ _)
 

@@ -8,27 +8,19 @@ use native.Mathlib.Omega.{arith}
 use lib.Dec.{ltb}
 use borrow.Author.Tests.{ltb-true, lt-ltb}
 use Rattle.lists.specs.Pick.{pick}
-use Rattle.lists.specs.Order.{All, In, Rising, rises, risesFrom}
+use Rattle.lists.specs.Order.{In, Rising, rises, risesFrom}
 use Rattle.lists.proofs.Laws.{clash}
 use Rattle.lists.proofs.Cases.{pick-case}
 use Rattle.lists.proofs.Order.{all-map, all-in, rises-is}
 use Rattle.table.specs.Limits.{Limits}
 use Rattle.table.specs.Meaning.{Line}
 use Rattle.table.specs.Numbers.{Cond, cond, numberOf, isRule, lowest, inForm, keyConditions, charmapConditions, mappingConditions}
+use Rattle.table.specs.FirstLine.{NoneHolds, HoldsLowest}
 use Rattle.table.specs.declared.header.Key.{Key}
 use Rattle.table.specs.declared.header.Value.{Value}
 use Rattle.table.specs.declared.header.Head.{Head}
 use Rattle.table.specs.declared.load.Refusal.{Refusal}
 use Rattle.table.specs.declared.load.Verdict.the-variants.{Fine, Refuse}
-
--- no condition of a table holds
-abbrev pub NoneHolds : List Cond → Type 0
-NoneHolds cs = All (λ c. c .holds ≡ false) cs
-
--- the condition of x holds, and of those that hold none has a lower number
-pub record HoldsLowest (x : Refusal) (cs : List Cond) : Type 0 where
-  pub holds : In (cond x true) cs
-  pub least : All (λ c. c .holds ≡ true → numberOf x ≤ numberOf (c .refusal)) cs
 
 abbrev pub byNumber : Cond → Cond → Bool
 byNumber c d = ltb (numberOf (c .refusal)) (numberOf (d .refusal))

@@ -9,18 +9,18 @@ use lib.Dec.{leb, eqb}
 use lib.ListN.{length, getD, take, drop, length-map}
 use borrow.Author.Tests.{le-leb, lt-leb, eq-eqb, ne-eqb}
 use Rattle.lists.specs.Pick.{pick}
-use Rattle.lists.specs.Order.{All, insert, sort}
+use Rattle.lists.specs.Order.{All, insert}
 use Rattle.lists.proofs.Cases.{pick-yes, pick-no}
-use Rattle.lists.proofs.Choice.{pick-self, pick-no as never}
+use Rattle.lists.proofs.Choice.{always, pick-self, pick-false}
 use Rattle.lists.proofs.Chains.{bar}
 use Rattle.lists.proofs.Front.{drop-put}
-use Rattle.lists.proofs.Order.{all-map, insert-length, sort-length}
+use Rattle.lists.proofs.Order.{insert-length, sort-length}
 use Rattle.table.specs.Limits.{limits}
 use Rattle.table.specs.States.{Rows, stepAt, endKind}
 use Rattle.table.specs.Codes.{packed, unpacked, AllByte}
 use Rattle.table.specs.Meaning.{Line, flat, same}
 use Rattle.table.specs.Rules.{anyOf, t5, t5Kind, t6, t7, t8, t8Byte, t9, sharesBytes, sharesPoint}
-use Rattle.table.specs.Entry.{Entry, mk, bitsOf, infoOf, rankOf, entryOf, less, readClash, writeClash, AllApart}
+use Rattle.table.specs.Entry.{Entry, mk, bitsOf, infoOf, rankOf, entryOf, less, AllApart}
 use Rattle.table.specs.Memory.{entries, sorted, orderOf, sub1In, Stored}
 use Rattle.table.specs.Search.{readTaken, writeTaken}
 use Rattle.table.specs.Valid.{Kept}
@@ -38,7 +38,7 @@ use Rattle.table.proofs.Packing.{packed-fits, unpack}
 use Rattle.table.proofs.Sorted.{order-length, sorted-rising, sorted-apart}
 use Rattle.table.proofs.Inserted.{free-next, next-held, sorted-more}
 use Rattle.table.proofs.StoreLaws.{held-is}
-use Rattle.table.proofs.LineLaws.{shares-bytes, shares-point, t9-apart, entry-point}
+use Rattle.table.proofs.LineLaws.{t9-apart, entry-point, read-taken-lines, write-taken-lines}
 use Rattle.table.proofs.LowestLaws.{lowest-fine}
 use Rattle.table.proofs.LineSteps.{fine-taken}
 use Rattle.table.proofs.HeaderSteps.{steps-held}
@@ -65,7 +65,7 @@ same-one : (c : List ℕ) (b : ℕ) → AllByte c → same c (b ∷ []) ≡ pick
 unfolding same
 same-one [] b a = refl
 same-one (x ∷ []) b a = pick-self (eqb x b) ∙ ap (λ (y : ℕ). eqb y b) (sym (first-byte (x ∷ []) a))
-same-one (x ∷ y ∷ s) b a = never (eqb x b) ∙ sym (pick-no (eqb (length (x ∷ y ∷ s)) 1) (eqb (packed (x ∷ y ∷ s) / 16777216) b) false (ne-eqb (length (x ∷ y ∷ s)) 1 (λ e. omega arith)))
+same-one (x ∷ y ∷ s) b a = pick-false (eqb x b) ∙ sym (pick-no (eqb (length (x ∷ y ∷ s)) 1) (eqb (packed (x ∷ y ∷ s) / 16777216) b) false (ne-eqb (length (x ∷ y ∷ s)) 1 (λ e. omega arith)))
 
 -- a mapping of a code point, a code and an indicator, where the code is held as bits and length
 module _ (step : Rows) (h : Head) (u d : ℕ) (c : List ℕ) (bits len : ℕ) (bytes : AllByte c) (eb : bits ≡ packed c) (el : len ≡ length c) where
@@ -114,7 +114,7 @@ module _ (step : Rows) (h : Head) (u d : ℕ) (c : List ℕ) (bits len : ℕ) (b
 
     pub own-21-long : h .max ≤ 4 → 4 < len → Refuse NoSuchCode ≡ ownVerdict step h line
     own-21-long m n =
-        by-57 false (t7 line) (five ∙ ap (λ (b : Bool). pick (leb (h .min) (length c)) (pick b (t5Kind u (endKind step 0 c)) false) false) (lt-leb (length c) (h .max) (omega arith)) ∙ never (leb (h .min) (length c))) refl
+        by-57 false (t7 line) (five ∙ ap (λ (b : Bool). pick (leb (h .min) (length c)) (pick b (t5Kind u (endKind step 0 c)) false) false) (lt-leb (length c) (h .max) (omega arith)) ∙ pick-false (leb (h .min) (length c))) refl
 
     module _ (short : len ≤ 4) (t : Bool) (is : t ≡ pick (leb (h .min) len) (pick (leb len (h .max)) (t5Kind u (endKind step 0 (unpacked len bits))) false) false) where
       code-5 : t5 step (h .min) (h .max) line ≡ t
@@ -131,10 +131,6 @@ module _ (step : Rows) (h : Head) (u d : ℕ) (c : List ℕ) (bits len : ℕ) (b
       pub own-one : t ≡ true → len ≡ 1 → Fine ≡ ownVerdict step h line
       own-one e one =
           by-57 true true (code-5 ∙ e) (ap (λ (b : Bool). pick (leb 2 d) true (pick b true (pick (eqb (getD c 0 0) 0) false true))) (le-leb (length c) 1 (omega arith)) ∙ always (leb 2 d))
-        where
-          always : (b : Bool) → pick b true true ≡ true
-          always true = refl
-          always false = refl
 
       module _ (e : t ≡ true) (few : d ≤ 3) (three : d ≡ 3 → ⊥) (some-bytes : 1 ≤ len) (one : len ≡ 1 → ⊥) where
         seven : t7 line ≡ pick (eqb (getD c 0 0) 0) false true
@@ -159,31 +155,6 @@ point-small u h =
     let l = lineAs u (0 ∷ []) 0 in
     let q = entry-point l (record { proper = record { bytes = (omega arith, tt); digit = omega arith }; some-bytes = omega arith; few-bytes = omega arith; scalar = h }) in
     omega arith
-
--- an entry that is tested for, among lines and among what is stored of them
-any-lines : (f : Line → Bool) (g : Entry → Bool) (ls : List Line) → All (λ x. f x ≡ g (entryOf x)) ls → anyOf f ls ≡ anyOf g (map entryOf ls)
-unfolding anyOf
-any-lines f g [] h = refl
-any-lines f g (x ∷ ls) h = (λ t. pick (h .0 t) true (any-lines f g ls (h .1) t))
-
-either-swap : (a b c : Bool) → pick a true (pick b true c) ≡ pick b true (pick a true c)
-either-swap true true c = refl
-either-swap true false c = refl
-either-swap false b c = refl
-
-any-insert : (g : Entry → Bool) (x : Entry) (l : List Entry) → anyOf g (insert less x l) ≡ pick (g x) true (anyOf g l)
-unfolding anyOf insert
-any-insert g x [] = refl
-any-insert g x (y ∷ l) = go (less y x) (any-insert g x l)
-  where
-    go : (b : Bool) → anyOf g (insert less x l) ≡ pick (g x) true (anyOf g l) → anyOf g (pick b (y ∷ insert less x l) (x ∷ y ∷ l)) ≡ pick (g x) true (pick (g y) true (anyOf g l))
-    go true e = ap (λ (r : Bool). pick (g y) true r) e ∙ either-swap (g y) (g x) (anyOf g l)
-    go false e = refl
-
-any-sort : (g : Entry → Bool) (l : List Entry) → anyOf g (sort less l) ≡ anyOf g l
-unfolding anyOf sort
-any-sort g [] = refl
-any-sort g (x ∷ l) = any-insert g x (sort less l) ∙ ap (λ (r : Bool). pick (g x) true r) (any-sort g l)
 
 -- own conditions first, then the others
 abbrev thenBy : Verdict → Verdict → Verdict
@@ -249,16 +220,12 @@ module _ (h : Head) (n : ℕ) (rows : List (List ℕ)) (ls : List Line) (s c i o
       }
 
       reads-taken : n24 ls l ≡ readTaken (entryOf l) held-now
-      unfolding n24 readTaken
-      reads-taken =
-          any-lines (λ x. sharesBytes x l) (λ x. readClash x (entryOf l)) ls (all-map (λ x (g : GoodLine x). shares-bytes x l g good) ls goods)
-          ∙ sym (any-sort (λ x. readClash x (entryOf l)) (map entryOf ls)) ∙ ap (λ (es : List Entry). anyOf (λ x. readClash x (entryOf l)) es) (sym held-entries)
+      unfolding n24
+      reads-taken = sym (read-taken-lines l ls good goods) ∙ ap (readTaken (entryOf l)) (sym held-entries)
 
       writes-taken : n25 ls l ≡ writeTaken (entryOf l) held-now
-      unfolding n25 writeTaken
-      writes-taken =
-          any-lines (λ x. sharesPoint x l) (λ x. writeClash x (entryOf l)) ls (all-map (λ x (g : GoodLine x). shares-point x l g good) ls goods)
-          ∙ sym (any-sort (λ x. writeClash x (entryOf l)) (map entryOf ls)) ∙ ap (λ (es : List Entry). anyOf (λ x. writeClash x (entryOf l)) es) (sym held-entries)
+      unfolding n25
+      writes-taken = sym (write-taken-lines l ls good goods) ∙ ap (writeTaken (entryOf l)) (sym held-entries)
 
       pub added-is : (e : Entry) (v : Verdict) → e ≡ entryOf l
           → v ≡ pick (readTaken e held-now) (Refuse BytesTaken) (pick (writeTaken e held-now) (Refuse PointTaken) (pick (leb 2048 n) (Refuse TooMany) Fine))

@@ -1,5 +1,5 @@
 -- The pass over the entries that collects which row leads on to which, and T3 by the levels over these marks.
-use Prim.Native.Nat.{ℕ, zero, suc, _+_, _-_, _*_, _/_, _%_, _<_, _≤_}
+use Prim.Native.Nat.{ℕ, zero, suc, _+_, _*_, _/_, _%_, _<_, _≤_}
 use mathlib.Core.Path.{_≡_, refl, sym, ap, subst, _∙_}
 use mathlib.Core.Bool.{Bool, true, false}
 use mathlib.Core.List.{List}
@@ -11,6 +11,7 @@ use lib.Seq.{getD-set-same, getD-set-other}
 use borrow.Author.Tests.{ltb-true, ltb-false, eqb-true, eqb-false, lt-ltb, le-ltb}
 use Rattle.lists.specs.Pick.{pick}
 use Rattle.lists.proofs.Laws.{clash, not-yes}
+use Rattle.lists.proofs.Choice.{always}
 use Rattle.lists.proofs.Parts.{same-at}
 use Rattle.table.specs.States.{stepOf, stepAt, allBelow, leadsTo, within}
 use Rattle.table.specs.LeadMarks.{marked, MarksOf, markedWithin}
@@ -59,12 +60,8 @@ module _ (marks : List Bool) (l : List ℕ) (i k : ℕ) (long : length marks ≡
       let same : getD (set marks p true) p false ≡ true = getD-set-same marks p true false (omega arith) in
       below-put (λ j. pick (getD marks (i / 256 * 16 + j) false) (w j) true) (λ j. pick (getD (set marks p true) (i / 256 * 16 + j) false) (w j) true) 16 k row-is
       (λ j q d. rw (getD-set-other marks p (i / 256 * 16 + j) true false (λ e. d (omega arith))))
-      (rw same (λ e. rw e (go (getD marks p false))))
+      (rw same (λ e. rw e (always (getD marks p false))))
       ∙ rw same
-    where
-      go : (b : Bool) → pick b true true ≡ true
-      go true = refl
-      go false = refl
 
   look-here : (w : ℕ → Bool) → seen l (i + 1) w (i / 256) ≡ pick (seen l i w (i / 256)) (w k) false
   unfolding seen stepAt

@@ -11,10 +11,30 @@ use Rattle.lists.specs.Pick.{pick}
 use Rattle.table.specs.Codes.{packed, unpacked, AllByte}
 use Rattle.table.specs.Entry.{padded}
 
+-- no bytes, and a byte before others
+pub packed-none : packed [] ≡ 0
+unfolding packed
+packed-none = refl
+
+pub packed-more : (b : ℕ) (s : List ℕ) → packed (b ∷ s) ≡ b * 16777216 + packed s / 256
+unfolding packed
+packed-more b s = refl
+
 pub length-unpacked : (n v : ℕ) → length (unpacked n v) ≡ n
 unfolding unpacked
 length-unpacked zero v = refl
 length-unpacked (suc n) v = ap suc (length-unpacked n (v % 16777216 * 256))
+
+-- no bytes, and the first of some
+pub unpacked-none : (n v : ℕ) → n ≤ 0 → unpacked n v ≡ []
+unfolding unpacked
+unpacked-none zero v h = refl
+unpacked-none (suc n) v h = absurd (omega arith)
+
+pub unpacked-more : (n v : ℕ) → 0 < n → unpacked n v ≡ v / 16777216 ∷ unpacked (n - 1) (v % 16777216 * 256)
+unfolding unpacked
+unpacked-more zero v h = absurd (omega arith)
+unpacked-more (suc n) v h = let e : suc n - 1 ≡ n = omega arith in rw e
 
 pub unpacked-bytes : (n bits : ℕ) → bits < 4294967296 → AllByte (unpacked n bits)
 unfolding unpacked AllByte

@@ -8,10 +8,11 @@ use native.Mathlib.Nat.{eq-or-lt-of-le, le-of-suc-le-suc}
 use native.Mathlib.Omega.{arith}
 use lib.Dec.{ltb, leb, eqb}
 use lib.ListN.{length, getD, take, drop, replicate, length-append}
-use borrow.Author.Tests.{ltb-true, ltb-false, leb-true, leb-false, eqb-true, eqb-false, le-leb, lt-leb, eq-eqb, ne-eqb, lt-ltb, le-ltb}
+use borrow.Author.Tests.{leb-true, leb-false, eqb-true, eqb-false, le-leb, lt-leb, eq-eqb, ne-eqb, lt-ltb, le-ltb}
 use Rattle.lists.specs.Pick.{pick}
 use Rattle.lists.specs.Order.{All}
 use Rattle.lists.proofs.Laws.{tests, both, both-left, both-right, clash}
+use Rattle.lists.proofs.Choice.{pick-false, pick-self}
 use Rattle.lists.proofs.Parts.{part-step, same-at}
 use Rattle.table.specs.States.{Rows, stepOf, stepAt, cutFrom, endKind, isEmpty, leadsTo, allBelow}
 use Rattle.table.specs.CutShort.{allLead, reached}
@@ -74,13 +75,8 @@ free-bad n e h k = rw (lt-leb e 3 h) (go (leb 16 e) refl)
 pub leads-ok : (n e : ℕ) → 16 ≤ e → stateOk n e ≡ t2Row n (e - 16)
 leads-ok n e h = rw (lt-leb e 3 (omega arith), le-leb 16 e h)
 
--- no test makes it true
-never : (ok : Bool) → pick ok false false ≡ false
-never true = refl
-never false = refl
-
 pub far-bad : (n e : ℕ) → 16 ≤ e → n ≤ e - 16 → stateOk n e ≡ false
-far-bad n e h k = leads-ok n e h ∙ rw (le-ltb (e - 16) n k) (never (leb 1 (e - 16)))
+far-bad n e h k = leads-ok n e h ∙ rw (le-ltb (e - 16) n k) (pick-false (leb 1 (e - 16)))
 
 pub near-ok : (n e : ℕ) → 16 < e → e - 16 < n → stateOk n e ≡ true
 near-ok n e h k = leads-ok n e (omega arith) ∙ both (leb 1 (e - 16)) (ltb (e - 16) n) (le-leb 1 (e - 16) (omega arith)) (lt-ltb (e - 16) n k)
@@ -110,15 +106,11 @@ pub zeros-on : (l : List ℕ) (i m : ℕ) (ok : Bool) → i < m → i < length l
 zeros-on l i m ok h k e = rw (zeros-step l i m h k, eq-eqb (getD l i 0) 0 e)
 
 pub zeros-off : (l : List ℕ) (i m : ℕ) (ok : Bool) → i < m → i < length l → (getD l i 0 ≡ 0 → ⊥) → pick ok (zeros (take (m - i) (drop i l))) false ≡ false
-zeros-off l i m ok h k e = rw (zeros-step l i m h k, ne-eqb (getD l i 0) 0 e) (never ok)
+zeros-off l i m ok h k e = rw (zeros-step l i m h k, ne-eqb (getD l i 0) 0 e) (pick-false ok)
 
 pub zeros-end : (l : List ℕ) (i m : ℕ) (ok : Bool) → m ≤ i → pick ok (zeros (take (m - i) (drop i l))) false ≡ ok
 unfolding zeros
-zeros-end l i m ok h = let e : m - i ≡ 0 = omega arith in rw e (go ok)
-  where
-    go : (b : Bool) → pick b true false ≡ b
-    go true = refl
-    go false = refl
+zeros-end l i m ok h = let e : m - i ≡ 0 = omega arith in rw e (pick-self ok)
 
 pub zeros-at : (l : List ℕ) (i : ℕ) → zeros l ≡ true → getD l i 0 ≡ 0
 unfolding zeros

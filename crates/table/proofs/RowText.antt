@@ -13,7 +13,9 @@ use Rattle.lists.specs.Pick.{pick}
 use Rattle.lists.specs.Order.{All}
 use Rattle.lists.proofs.Laws.{tests}
 use Rattle.lists.proofs.Cases.{pick-case}
+use Rattle.lists.proofs.Choice.{pick-self}
 use Rattle.lists.proofs.Append.{all-append}
+use Rattle.lists.proofs.Parts.{left-step}
 use Rattle.lists.proofs.AllParts.{all-take, all-drop, all-same}
 use Rattle.table.specs.declared.text.Num.{Num}
 use Rattle.table.specs.declared.text.Num.the-variants.{Val, Bad}
@@ -26,10 +28,6 @@ use Rattle.table.specs.Rules.{anyOf}
 use Rattle.table.specs.Memory.{known}
 use Rattle.table.proofs.TextLaws.{scan, Forth}
 
-or-false : (b : Bool) → pick b true false ≡ b
-or-false true = refl
-or-false false = refl
-
 -- an entry more, the last one, or none: whether one so far has a form
 pub any-more : (p : Column → Bool) (l : Bool) (f : ℕ) (s : List ℕ) (e : Column) (q : ℕ) →
     pick l true (anyOf p (columnsGo (suc f) s (More e q))) ≡ pick (l || p e) true (anyOf p (columnsGo f s (itemAt s q)))
@@ -41,13 +39,13 @@ pub any-last : (p : Column → Bool) (l : Bool) (f : ℕ) (s : List ℕ) (e : Co
     pick l true (anyOf p (columnsGo f s (Last e))) ≡ (l || p e)
 unfolding anyOf columnsGo
 any-last p true f s e = refl
-any-last p false zero s e = or-false (p e)
-any-last p false (suc f) s e = or-false (p e)
+any-last p false zero s e = pick-self (p e)
+any-last p false (suc f) s e = pick-self (p e)
 
 pub any-wrong : (p : Column → Bool) (l : Bool) (f : ℕ) (s : List ℕ) → pick l true (anyOf p (columnsGo f s Wrong)) ≡ l
 unfolding anyOf columnsGo
-any-wrong p l zero s = or-false l
-any-wrong p l (suc f) s = or-false l
+any-wrong p l zero s = pick-self l
+any-wrong p l (suc f) s = pick-self l
 
 pub well-more : (f : ℕ) (s : List ℕ) (e : Column) (q : ℕ) → wellGo (suc f) s (More e q) ≡ wellGo f s (itemAt s q)
 unfolding wellGo
@@ -62,9 +60,6 @@ pub well-wrong : (f : ℕ) (s : List ℕ) → wellGo f s Wrong ≡ false
 unfolding wellGo
 well-wrong zero s = refl
 well-wrong (suc f) s = refl
-
-pub fuel : (n k : ℕ) → k < n → n - k ≡ suc (n - (k + 1))
-fuel n k h = omega arith
 
 pub paint-more : (f : ℕ) (s : List ℕ) (e : Column) (q : ℕ) (row : List ℕ) →
     painted (columnsGo (suc f) s (More e q)) row ≡ painted (columnsGo f s (itemAt s q)) (spread (e .lo) (e .hi) (meaning e) row)
@@ -91,7 +86,7 @@ spread-step i to v l le lt =
     let tk : take (i + 1) (set l i v) ≡ take i l ++ (v ∷ []) = rw add-one (take-suc-set l i v li) in
     let a : i + (to + 1 - i) ≡ to + 1 = omega arith in
     let b : i + 1 + (to + 1 - (i + 1)) ≡ to + 1 = omega arith in
-    rw (a, b, drop-set-lt (to + 1) l i v ni, tk, append-snoc, fuel (to + 1) i ni)
+    rw (a, b, drop-set-lt (to + 1) l i v ni, tk, append-snoc, left-step (to + 1) i ni)
 
 pub spread-end : (i to v : ℕ) (l : List ℕ) → to < i → spread i to v l ≡ l
 unfolding spread
@@ -289,14 +284,3 @@ meaning-known c =
   where
     P : ℕ → Type 0
     P x = known x ≡ true
-
-pub meaning-below : (c : Column) → c .next ≤ 256 → meaning c < 65536
-unfolding meaning
-meaning-below c h =
-    pick-case P (eqb (c .kind) 0) _ _ (λ _. pick-case P (eqb (c .next) 256) _ _ (λ _. omega arith) (λ _. omega arith))
-    (λ _. pick-case P (eqb (c .kind) 1) _ _ (λ _. omega arith)
-    (λ _. pick-case P (eqb (c .kind) 2) _ _ (λ _. omega arith)
-    (λ _. pick-case P (eqb (c .kind) 3) _ _ (λ _. omega arith) (λ _. omega arith))))
-  where
-    P : ℕ → Type 0
-    P x = x < 65536

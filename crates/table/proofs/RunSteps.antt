@@ -1,17 +1,17 @@
 -- Reading line by line: a turn of the loop in terms of what is left to read, and what the memory holds before, between and after.
 use Prim.Native.Nat.{ℕ, zero, suc, _+_, _-_, _<_, _≤_}
 use mathlib.Core.Path.{_≡_, refl, sym, ap, subst, _∙_}
-use mathlib.Core.Bool.{Bool, true, false}
+use mathlib.Core.Bool.{true, false}
 use mathlib.Core.List.{List, [], _∷_, _++_}
 use native.Mathlib.Omega.{arith}
 use lib.ListN.{length, take, drop, replicate, length-replicate, take-append-drop}
 use lib.Seq.{take-at, drop-at}
 use lib.Dec.{ltb}
 use borrow.Author.Tests.{ne-eqb, ltb-false, lt-ltb, le-ltb}
-use Rattle.lists.specs.Pick.{pick}
 use Rattle.lists.specs.Order.{sort, upFrom}
 use Rattle.lists.proofs.Laws.{clash}
 use Rattle.lists.proofs.Cases.{pick-yes, pick-no}
+use Rattle.lists.proofs.Chains.{either-first, either-rest}
 use Rattle.table.specs.Limits.{Limits, limits, needed}
 use Rattle.table.specs.States.{Rows, endKind, isCode}
 use Rattle.table.specs.Codes.{unpacked}
@@ -171,20 +171,16 @@ pub accepted-as : (out : Outcome) (t : Table) (r : Record) → out ≡ accepted 
 accepted-as out t r e n = (λ j. record { answer = Accepted; line = 0; table = n j }) ∙ sym (ap loadedAs e)
 
 -- whether the memory and the text fit
-neither : (a b : Bool) → pick a true b ≡ false → (a ≡ false) × (b ≡ false)
-neither true b e = absurd (clash refl e)
-neither false b e = (refl, e)
-
 pub long-enough : (lim : Limits) (states codes infos order : List ℕ) → Small lim (length states) (length codes) (length infos) (length order) ≡ false → Lent lim states codes infos order
 long-enough lim states codes infos order e =
-    let s = neither (ltb (length states) (needed lim)) _ e in
-    let c = neither (ltb (length codes) (lim .mappings)) _ (s .1) in
-    let i = neither (ltb (length infos) (lim .mappings)) _ (c .1) in
+    let c = either-rest (ltb (length states) (needed lim)) _ e in
+    let i = either-rest (ltb (length codes) (lim .mappings)) _ c in
+    let o = either-rest (ltb (length infos) (lim .mappings)) _ i in
     record {
-      states-long = ltb-false (length states) (needed lim) (s .0);
-      codes-long = ltb-false (length codes) (lim .mappings) (c .0);
-      infos-long = ltb-false (length infos) (lim .mappings) (i .0);
-      order-long = ltb-false (length order) (lim .mappings) (i .1);
+      states-long = ltb-false (length states) (needed lim) (either-first _ _ e);
+      codes-long = ltb-false (length codes) (lim .mappings) (either-first _ _ c);
+      infos-long = ltb-false (length infos) (lim .mappings) (either-first _ _ i);
+      order-long = ltb-false (length order) (lim .mappings) o;
     }
 
 pub given-small : (lim : Limits) (text : List ℕ) (s c i o : ℕ) → Small lim s c i o ≡ true → givenBy lim text s c i o ≡ untouched refusal.MemoryTooSmall

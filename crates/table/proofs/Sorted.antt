@@ -6,11 +6,11 @@ use Prim.Native.Nat.{ℕ, zero, suc, _+_, _-_, _<_, _≤_}
 use native.Mathlib.Omega.{arith}
 use lib.Dec.{ltb, leb, eqb}
 use lib.ListN.{length, take, drop, replicate, length-map, length-drop, length-append, length-replicate}
-use native.Mathlib.Nat.{sub-zero, zero-sub, suc-sub-suc}
-use lib.Seq.{take-nil, length-take-le, take-add, take-take, take-at, drop-at}
+use lib.Seq.{length-take-le, take-add, take-take, take-at, drop-at, drop-drop, take-append-add}
 use borrow.Author.Tests.{lt-ltb, ltb-true, ltb-false, eqb-true, le-leb, leb-true}
 use Rattle.lists.specs.Order.{All, Pairs, In, Rising, rises, sort, Comparable, upFrom}
 use Rattle.lists.proofs.Laws.{clash, both, both-left, both-right}
+use Rattle.lists.proofs.Front.{drop-same, drop-take}
 use Rattle.lists.proofs.Order.{all-map, all-both, all-in, all-of, pairs-map, pairs-in, rises-is, rises-from-is, rising-rises, rising-from, unique, sort-in, in-sort, sort-length, sort-rising, sort-pairs, in-upFrom, upFrom-in, upFrom-length, upFrom-pairs, pigeonhole}
 use Rattle.table.specs.Entry.{Entry, bitsOf, infoOf, less, pointLess, writeClash, readNext, writeNext, Apart, AllApart}
 use Rattle.table.specs.Memory.{entries, entryAt, nth, indexLess, orderOf, filled}
@@ -245,11 +245,17 @@ pub filled-take : (limit n : ℕ) (l xs : List ℕ) → length xs ≡ n → n �
 unfolding filled
 filled-take limit n l xs a h e = sym (take-take n limit l h) ∙ ap (λ (m : List ℕ). take n m) e ∙ take-at xs (replicate (limit - length xs) 0) n a
 
-pub drop-take : (r n : ℕ) (l : List ℕ) → drop r (take n l) ≡ take (n - r) (drop r l)
-drop-take zero n l = rw sub-zero
-drop-take (suc r) zero l = rw zero-sub
-drop-take (suc r) (suc n) [] = rw take-nil
-drop-take (suc r) (suc n) (x ∷ xs) = rw suc-sub-suc (drop-take r n xs)
+-- numbers with zeros behind them, of which the first are written anew
+pub fill-put : (n a m : ℕ) (xs ys l : List ℕ) → length xs ≡ a → length ys ≡ a + m → a + m ≤ n → take n l ≡ filled n xs → take n (ys ++ drop (a + m) l) ≡ filled n ys
+unfolding filled
+fill-put n a m xs ys l e f h q =
+    let split : n ≡ length ys + (n - (a + m)) = omega arith in
+    let tail : take (n - (a + m)) (drop (a + m) l) ≡ replicate (n - (a + m)) 0 =
+    sym (drop-take (a + m) n l) ∙ ap (λ (z : List ℕ). drop (a + m) z) q ∙ sym (drop-drop m a (xs ++ replicate (n - length xs) 0))
+    ∙ ap (λ (z : List ℕ). drop m z) (drop-at xs (replicate (n - length xs) 0) a e) ∙ drop-same m (n - length xs) 0 (omega arith)
+    ∙ ap (λ (k : ℕ). replicate k 0) (let z : n - length xs - m ≡ n - (a + m) = omega arith in z) in
+    ap (λ (k : ℕ). take k (ys ++ drop (a + m) l)) split ∙ take-append-add ys (drop (a + m) l) (n - (a + m))
+    ∙ ap (λ (z : List ℕ). ys ++ z) (tail ∙ ap (λ (k : ℕ). replicate k 0) (let z : n - (a + m) ≡ n - length ys = omega arith in z))
 
 pub filled-zeros : (limit n : ℕ) (l xs : List ℕ) → length xs ≡ n → take limit l ≡ filled limit xs → zeros (take (limit - n) (drop n l)) ≡ true
 unfolding filled

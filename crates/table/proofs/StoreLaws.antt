@@ -13,7 +13,7 @@ use lib.Seq.{length-take-le, getD-take}
 use borrow.Author.Tests.{lt-ltb, le-ltb, eqb-true, eqb-false, eq-eqb, ne-eqb, leb-true, le-leb, lt-leb}
 use Rattle.lists.specs.Pick.{pick}
 use Rattle.lists.specs.Order.{All, In, Rising, firstOf, byKey, risesFrom, rises, sort}
-use Rattle.lists.proofs.Choice.{pick-no, pick-self}
+use Rattle.lists.proofs.Choice.{pick-false, pick-self}
 use Rattle.lists.proofs.Laws.{clash, not-yes, both, both-left, both-right, drop-step, drop-end}
 use Rattle.lists.proofs.Order.{all-at, first-none, all-map, all-both, all-of, pairs-map, pairs-in, Falls, lead-le, lead-no, lead-yes, headIf, first-lead, first-same, by-less, by-same, by-cases, sort-in, in-sort, unique, map-pairs, map-in, in-map}
 use Rattle.table.specs.Rules.{allOf, anyOf}
@@ -50,7 +50,7 @@ module _ (f : Entry → Bool) where
       unfolding rises allOf
       lines-out q =
           ap (λ (l : List Entry). pick (rises readNext l) (allOf f l) false) (entries-step a b 0 e (omega arith))
-          ∙ rw q (pick-no (risesFrom readNext (mk (getD a 0 0) (getD b 0 0)) (entries (drop 1 a) (drop 1 b))))
+          ∙ rw q (pick-false (risesFrom readNext (mk (getD a 0 0) (getD b 0 0)) (entries (drop 1 a) (drop 1 b))))
 
       pub lines-start : f (mk (getD a 0 0) (getD b 0 0)) ≡ true → pick (rises readNext (entries a b)) (allOf f (entries a b)) false ≡ linesFrom (mk (getD a 0 0) (getD b 0 0)) (entries (drop 1 a) (drop 1 b))
       unfolding rises allOf
@@ -78,7 +78,7 @@ module _ (f : Entry → Bool) where
       pub lines-break : f here ≡ false → linesFrom x (entries (drop k a) (drop k b)) ≡ false
       lines-break q =
           lines-step ∙ (λ t. pick (pick (readNext x here) (risesFrom readNext here behind) false) (pick (q t) (allOf f behind) false) false)
-          ∙ pick-no (pick (readNext x here) (risesFrom readNext here behind) false)
+          ∙ pick-false (pick (readNext x here) (risesFrom readNext here behind) false)
 
   pub lines-end : (x : Entry) (a b : List ℕ) (k : ℕ) → length a ≤ k → linesFrom x (entries (drop k a) (drop k b)) ≡ true
   unfolding risesFrom allOf
@@ -573,7 +573,7 @@ read-whole bits info es = let q : extraIn info ≡ extraIn info + 1 - 1 = omega 
 
 pub read-not-taken : (e : Entry) (es : List Entry) → 1 < rankIn (e .info) → readTaken e es ≡ false
 unfolding readTaken readClash
-read-not-taken e es h = any-none (λ x. readClash x e) (λ x. rw (lt-leb (rankIn (e .info)) 1 h, pick-no (leb (rankIn (x .info)) 1), pick-no (eqb (extraIn (x .info)) (extraIn (e .info))), pick-no (eqb (x .bits) (e .bits)))) es
+read-not-taken e es h = any-none (λ x. readClash x e) (λ x. rw (lt-leb (rankIn (e .info)) 1 h, pick-false (leb (rankIn (x .info)) 1), pick-false (eqb (extraIn (x .info)) (extraIn (e .info))), pick-false (eqb (x .bits) (e .bits)))) es
 
 pub write-taken-is : (e : Entry) (es : List Entry) → (rankIn (e .info) ≡ 1 → ⊥) → writeTaken e es ≡ isHit (writeOf (pointIn (e .info)) es)
 unfolding writeTaken writeClash writesPoint
@@ -581,7 +581,7 @@ write-taken-is e es h = any-first (λ x. writeClash x e) (writesPoint (pointIn (
 
 pub write-not-taken : (e : Entry) (es : List Entry) → rankIn (e .info) ≡ 1 → writeTaken e es ≡ false
 unfolding writeTaken writeClash
-write-not-taken e es h = any-none (λ x. writeClash x e) (λ x. rw (eq-eqb (rankIn (e .info)) 1 h, pick-no (writesEntry x), pick-no (eqb (pointIn (x .info)) (pointIn (e .info))))) es
+write-not-taken e es h = any-none (λ x. writeClash x e) (λ x. rw (eq-eqb (rankIn (e .info)) 1 h, pick-false (writesEntry x), pick-false (eqb (pointIn (x .info)) (pointIn (e .info))))) es
 
 -- not taken: the new line keeps T9 with all
 pub free-apart : (e : Entry) (es : List Entry) → readTaken e es ≡ false → writeTaken e es ≡ false → All (Apart e) es

@@ -11,6 +11,7 @@ use lib.Dec.{ltb, leb, eqb, lit<}
 use lib.ListN.{length, getD, drop, List·getD-eq-default}
 use Rattle.lists.proofs.Laws.{tests, drop-end, clash, not-yes}
 use Rattle.lists.proofs.Cases.{pick-case}
+use Rattle.lists.proofs.Choice.{pick-self}
 use Rattle.lists.specs.Pick.{pick}
 use Rattle.table.specs.Codes.{packed, AllByte}
 use Rattle.table.specs.Text.{digitOf, byteOf, endsAt, byteAt, hexOf, unicodeAt, plusAt, joinAt, Series, series, broken, withByte, bytesMore, bytesFrom, runOf, Keeps}
@@ -210,14 +211,10 @@ unfolding bytesMore onRun
 run-wrong zero b w c j s q h = rw h
 run-wrong (suc f) b w c j s q h = rw h
 
-or-no : (j : Bool) → pick j true false ≡ j
-or-no true = refl
-or-no false = refl
-
 pub run-done : (f b w c : ℕ) (j : Bool) (s : List ℕ) (q : ℕ) → plusAt s q ≡ false → onRun b w c j (bytesMore f s q Bad) ≡ Bytes b c j q
 unfolding bytesMore onRun weighed
-run-done zero b w c j s q h = rw (h, add-zero b, add-zero c, or-no j)
-run-done (suc f) b w c j s q h = rw (h, add-zero b, add-zero c, or-no j)
+run-done zero b w c j s q h = rw (h, add-zero b, add-zero c, pick-self j)
+run-done (suc f) b w c j s q h = rw (h, add-zero b, add-zero c, pick-self j)
 
 pub run-fuel : (n c : ℕ) → c ≤ n → n + 1 - c ≡ suc (n + 1 - (c + 1))
 run-fuel n c h = omega arith

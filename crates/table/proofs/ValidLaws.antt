@@ -13,7 +13,8 @@ use Rattle.lists.specs.Pick.{pick}
 use Rattle.lists.specs.Order.{All, In, Rising, rises, sort}
 use Rattle.lists.proofs.Order.{all-map, all-both, all-of, all-in, map-all, map-in, in-map, sort-all, sort-in, in-sort, sort-length}
 use Rattle.lists.proofs.Choice.{both-swap}
-use Rattle.lists.proofs.Members.{sort-same, all-take}
+use Rattle.lists.proofs.AllParts.{all-take}
+use Rattle.lists.proofs.Sorting.{sort-same}
 use Rattle.lists.proofs.Laws.{clash, both, both-left, both-right}
 use Rattle.table.specs.Limits.{limits, needed}
 use Rattle.table.specs.States.{Rows, stepOf, stepAt, endKind, isCode, leadsTo}

@@ -1,11 +1,11 @@
 -- A mapping as it is stored: two numbers. `bits` holds the code's bytes, first byte on top, unused places zero;
 -- `info` is code point + 2^21 * rank + 2^24 * (length - 1). The rank puts lines that are read first: |0, |3, |1, |2.
-use Prim.Native.Nat.{ℕ, zero, suc, _+_, _-_, _*_, _/_, _%_}
+use Prim.Native.Nat.{ℕ, _+_, _-_, _*_, _/_, _%_}
 use mathlib.Core.Bool.{Bool, true, false}
 use mathlib.Core.Path.{_≡_}
-use mathlib.Core.List.{List, [], _∷_}
+use mathlib.Core.List.{List}
 use lib.ListN.{length}
-use lib.Dec.{ltb, leb, eqb}
+use lib.Dec.{leb, eqb}
 use Rattle.lists.specs.Pick.{pick}
 use Rattle.lists.specs.Order.{byKey, Pairs}
 use Rattle.table.specs.Codes.{packed, unpacked}

@@ -1,9 +1,9 @@
 -- A line before CHARMAP, by form alone: it knows no number and nothing that came before.
-use Prim.Native.Nat.{ℕ, zero, suc, _+_, _-_, _/_, _<_, _≤_}
+use Prim.Native.Nat.{ℕ, _+_, _-_, _/_, _<_, _≤_}
 use mathlib.Core.Path.{_≡_}
 use mathlib.Core.List.{List, [], _∷_}
 use mathlib.Core.Bool.{Bool, true, false}
-use lib.ListN.{length, getD, take, drop}
+use lib.ListN.{length, take, drop}
 use lib.Dec.{ltb, leb, eqb}
 use Rattle.lists.specs.Pick.{pick}
 use Rattle.table.specs.Codes.{packed}
@@ -100,7 +100,7 @@ unfoldable pub sub1Value : List ℕ → Series → Value
 sub1Value v broken = Unfit
 sub1Value v (series l m e) = pick m Unfit (pick (leb (length l) 1) (pick (leb (length v) (skipAt v e)) (Sub1 (packed l / 16777216)) Unfit) Unfit)
 
--- icu:state: the word that opens it, whether an entry has a form under 14, whether one has a form under 15
+-- icu:state: the word that opens it, whether 14 is given for an entry, whether 15 is
 unfoldable pub rowFrom : List ℕ → Num → Value
 rowFrom v Bad = Unfit
 rowFrom v (Val k q) = pick (wellAt v q) (Row k (anyOf laterColumn (columnsAt v q)) (anyOf overColumn (columnsAt v q))) Unfit

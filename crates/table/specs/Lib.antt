@@ -13,6 +13,7 @@ pub mod Header
 pub mod Mapping
 pub mod Numbers
 pub mod Load
+pub mod FirstLine
 pub mod Progress
 pub mod CutShort
 pub mod LeadMarks

@@ -1,13 +1,11 @@
--- Loading a text: a fold over its lines, the answer, and what it leaves in the lent memory.
-use Prim.Native.Nat.{ℕ, zero, suc, _+_, _-_, _≤_}
-use mathlib.Core.Path.{_≡_}
+-- Loading a text: line after line, the answer, and what it leaves in the lent memory.
+use Prim.Native.Nat.{ℕ, _+_, _-_}
 use mathlib.Core.Bool.{Bool, true, false}
-use mathlib.Core.Option.{Option, none, some}
 use mathlib.Core.List.{List, [], _∷_, _++_, map}
 use lib.ListN.{length, take, drop, replicate}
-use lib.Dec.{ltb, leb, eqb}
+use lib.Dec.{ltb}
 use Rattle.lists.specs.Pick.{pick}
-use Rattle.table.specs.Limits.{Limits, needed}
+use Rattle.table.specs.Limits.{Limits, limits, needed}
 use Rattle.table.specs.Codes.{bytesOf}
 use Rattle.table.specs.Meaning.{Line, Table, flat}
 use Rattle.table.specs.Entry.{bitsOf, infoOf}
@@ -16,10 +14,8 @@ use Rattle.table.specs.Text.{linesOf}
 use Rattle.table.specs.Row.{columnsOf, rowOf}
 use Rattle.table.specs.Header.{lineOf}
 use Rattle.table.specs.Mapping.{Form, noForm, reserved, blank, ending, mapping, mappedOf, lastOf}
-use Rattle.table.specs.Numbers.{Cond, lowest, inForm, cond, keyConditions, charmapConditions, mappingConditions, rowsAt}
-use Rattle.table.specs.declared.states.Code.{Code}
+use Rattle.table.specs.Numbers.{Cond, lowest, inForm, keyConditions, charmapConditions, mappingConditions, rowsAt}
 use Rattle.table.specs.declared.valid.Record.{Record}
-use Rattle.table.specs.declared.header.Key.{Key}
 use Rattle.table.specs.declared.header.Value.{Value}
 use Rattle.table.specs.declared.header.Value.the-variants.{Unfit, Any, Name, Min, Max, Class, Sub, Sub1, Row, Later}
 use Rattle.table.specs.declared.header.Head.{Head}
@@ -31,7 +27,6 @@ use Rattle.table.specs.declared.load.Verdict.{Verdict}
 use Rattle.table.specs.declared.load.Verdict.the-variants.{Fine, Refuse}
 use Rattle.table.specs.declared.load.Phase.{Phase}
 use Rattle.table.specs.declared.load.Phase.the-variants.{Header, Mappings, Ended}
-use Rattle.table.specs.declared.load.Answer.{Answer}
 use Rattle.table.specs.declared.load.Answer.the-variants.{Accepted, Refused}
 use Rattle.table.specs.declared.load.Loaded.{Loaded}
 
@@ -211,3 +206,23 @@ infosOf t = map infoOf (sorted (t .lines))
 
 abbrev pub orderedOf : Table → List ℕ
 orderedOf t = orderOf (sorted (t .lines))
+
+-- the four lent slices
+pub record Slices : Type 0 where
+  pub states : List ℕ
+  pub codes : List ℕ
+  pub infos : List ℕ
+  pub order : List ℕ
+
+-- what loading a text into lent slices gives, and what it leaves in them: the words of the load's own promise
+abbrev pub given : List ℕ → Slices → Given
+given text old = givenBy limits text (length (old .states)) (length (old .codes)) (length (old .infos)) (length (old .order))
+
+abbrev pub leftIn : Given → Slices → Slices
+leftIn g old =
+    record {
+      states = leftBy (needed limits) statesOf g (old .states);
+      codes = leftBy (limits .mappings) codesOf g (old .codes);
+      infos = leftBy (limits .mappings) infosOf g (old .infos);
+      order = leftBy (limits .mappings) orderedOf g (old .order);
+    }

@@ -12,7 +12,7 @@ use Rattle.table.specs.declared.text.Num.the-variants.{Val, Bad}
 use Rattle.table.specs.declared.mapping.Mapped.{Mapped}
 use Rattle.table.specs.declared.mapping.Mapped.the-variants as coded
 
--- reserved: a form named under 14 (second CHARMAP, several code points, a `+`, indicator 4)
+-- reserved: a form that 14 is given for (second CHARMAP, several code points, a `+`, indicator 4)
 pub data Form : Type 0 where
   noForm : Form
   reserved : Form

@@ -1,16 +1,14 @@
 -- The numbers handed back for a text, in the order of document 01's table: for each, when it holds at a line, given what came before.
-use Prim.Native.Nat.{ℕ, zero, suc, _+_, _<_}
-use mathlib.Core.Path.{_≡_}
+use Prim.Native.Nat.{ℕ}
 use mathlib.Core.Bool.{Bool, true, false, not}
-use mathlib.Core.Option.{Option, none, some}
-use mathlib.Core.List.{List, [], _∷_, _++_}
+use mathlib.Core.List.{List, [], _∷_}
 use lib.ListN.{length, replicate}
 use lib.Dec.{ltb, leb, eqb}
 use Rattle.lists.specs.Pick.{pick}
 use Rattle.table.specs.Limits.{Limits}
-use Rattle.table.specs.States.{Rows, stepAt}
+use Rattle.table.specs.States.{stepAt}
 use Rattle.table.specs.Codes.{bytesOf}
-use Rattle.table.specs.Meaning.{Line, Table, flat}
+use Rattle.table.specs.Meaning.{Line, flat}
 use Rattle.table.specs.Rules.{anyOf, t2, t3, t4Sub, t4Sub1, t5, t6, t7, t8, sharesBytes, sharesPoint}
 use Rattle.table.specs.Memory.{sub1In}
 use Rattle.table.specs.declared.header.Key.{Key}
@@ -20,6 +18,8 @@ use Rattle.table.specs.declared.header.Value.the-variants.{Unfit, Any, N
 use Rattle.table.specs.declared.header.Head.{Head}
 use Rattle.table.specs.declared.load.Refusal.{Refusal}
 use Rattle.table.specs.declared.load.Refusal.the-variants as refusal
+use Rattle.table.specs.declared.load.Answer.{Answer}
+use Rattle.table.specs.declared.load.Answer.the-variants.{Accepted, Refused}
 use Rattle.table.specs.declared.load.Verdict.{Verdict}
 use Rattle.table.specs.declared.load.Verdict.the-variants.{Fine, Refuse}
 
@@ -43,6 +43,11 @@ numberOf refusal.PointTaken = 25
 numberOf refusal.TooMany = 26
 numberOf refusal.NoEnd = 27
 
+-- the number of the answer to a text: 0 where it is accepted
+abbrev pub answerNumber : Answer → ℕ
+answerNumber Accepted = 0
+answerNumber (Refused x) = numberOf x
+
 -- 11: once-only key again
 unfoldable pub n11 : Head → Key → Bool
 n11 h CodeSetName = h .name
@@ -55,7 +60,7 @@ n11 h State = false
 n11 h Base = false
 n11 h Other = false
 
--- 12: known key, value not as it must be, the forms under 14 and 15 let through
+-- 12: known key, value not as it must be; forms that 14 or 15 is given for are let through
 unfoldable pub n12 : Value → Bool
 n12 Unfit = true
 n12 Any = false
@@ -124,8 +129,7 @@ n16 h rows =
     (pick (t4Sub (stepAt (flat rows)) (bytesOf (h .sub)))
     (pick (t4Sub1 (stepAt (flat rows)) (sub1In (h .sub1))) false true) true) true) true) true
 
--- what came before a mapping line: the header, its rows, the lines with the last one first
--- 20, 21, 22, 23: the mapping breaks T6, T5, T7, T8
+-- 20, 21, 22, 23: the mapping breaks T6, T5, T7, T8. What came before it: the header, its rows, the lines with the last one first
 unfoldable pub n20 : Line → Bool
 n20 l = not (t6 l)
 

@@ -1,18 +1,16 @@
 -- Between two lines of a text: what the lent memory holds of what was read. Only the loader's own functions speak of it.
-use Prim.Native.Nat.{ℕ, _+_, _≤_, _<_}
+use Prim.Native.Nat.{ℕ, _≤_}
 use mathlib.Core.Path.{_≡_}
-use mathlib.Core.Bool.{Bool, true, false}
-use mathlib.Core.List.{List, [], _∷_, _++_}
+use mathlib.Core.Bool.{true}
+use mathlib.Core.List.{List}
 use lib.ListN.{length, take, drop}
-use Rattle.lists.specs.Pick.{pick}
 use Rattle.lists.specs.Order.{All}
 use Rattle.table.specs.Limits.{Limits, needed}
-use Rattle.table.specs.States.{stepAt}
 use Rattle.table.specs.Meaning.{Line, flat}
-use Rattle.table.specs.Rules.{allOf, t2, t3, t6, t9}
+use Rattle.table.specs.Rules.{allOf, t6, t9}
 use Rattle.table.specs.Entry.{padded}
 use Rattle.table.specs.Memory.{filled, sorted, Stored, known, ProperLine}
-use Rattle.table.specs.Load.{Reading, Step, went, stop, reading}
+use Rattle.table.specs.Load.{Step, went, stop}
 use Rattle.table.specs.declared.header.Head.{Head}
 use Rattle.table.specs.declared.load.Phase.{Phase}
 use Rattle.table.specs.declared.load.Progress.{Progress}

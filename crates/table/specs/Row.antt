@@ -2,7 +2,7 @@
 use Prim.Native.Nat.{ℕ, zero, suc, _+_, _*_, _-_, _<_, _≤_}
 use mathlib.Core.List.{List, [], _∷_, _++_}
 use mathlib.Core.Bool.{Bool, true, false}
-use lib.ListN.{length, getD, take, drop, replicate}
+use lib.ListN.{length, take, drop, replicate}
 use lib.Dec.{ltb, leb, eqb}
 use Rattle.lists.specs.Pick.{pick}
 use Rattle.table.specs.Text.{byteOf, skipAt, begins, numberAt}

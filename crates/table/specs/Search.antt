@@ -1,14 +1,14 @@
 -- Looking up and inserting, over stored entries.
-use Prim.Native.Nat.{ℕ, zero, suc, _+_, _-_, _*_, _≤_, _<_}
-use mathlib.Core.Bool.{Bool, true, false}
+use Prim.Native.Nat.{ℕ, _+_, _-_, _<_}
+use mathlib.Core.Bool.{Bool, false}
 use mathlib.Core.Path.{_≡_}
 use mathlib.Core.Option.{Option, none, some}
-use mathlib.Core.List.{List, [], _∷_, _++_, map}
-use lib.Dec.{ltb, leb, eqb}
-use lib.ListN.{length, take, drop, getD, replicate}
+use mathlib.Core.List.{List, _∷_, _++_, map}
+use lib.Dec.{leb, eqb}
+use lib.ListN.{length, take, drop}
 use Rattle.lists.specs.Pick.{pick}
-use Rattle.lists.specs.Order.{All, Rising, lead, firstOf, insert}
-use Rattle.table.specs.Entry.{Entry, mk, bitsOf, infoOf, pointIn, extraIn, readsEntry, writesEntry, less, pointLess, readClash, writeClash}
+use Rattle.lists.specs.Order.{All, Rising, lead, firstOf}
+use Rattle.table.specs.Entry.{Entry, pointIn, extraIn, readsEntry, writesEntry, less, pointLess, readClash, writeClash}
 use Rattle.table.specs.Memory.{entries, entryAt, orderOf}
 use Rattle.table.specs.Rules.{anyOf}
 use Rattle.table.specs.declared.store.Found.{Found}

@@ -1,18 +1,17 @@
 -- The test behind number 60: one named test for each rule, and the form.
-use Prim.Native.Nat.{ℕ, zero, suc, _+_, _-_, _*_, _≤_}
+use Prim.Native.Nat.{ℕ, _-_, _*_}
 use mathlib.Core.Bool.{Bool, true, false}
 use mathlib.Core.Path.{_≡_}
-use mathlib.Core.List.{List, [], _∷_, _++_, map}
+use mathlib.Core.List.{List, [], _∷_}
 use lib.Dec.{ltb, leb, eqb}
-use lib.ListN.{length, take, drop, getD, replicate}
+use lib.ListN.{length, take, drop}
 use Rattle.lists.specs.Pick.{pick}
 use Rattle.lists.specs.Order.{rises, risesFrom, Rising}
 use Rattle.table.specs.Limits.{Limits, needed}
 use Rattle.table.specs.States.{Rows, stepOf, stepAt, leadsTo}
 use Rattle.table.specs.Codes.{bytesOf}
-use Rattle.table.specs.Meaning.{Line}
 use Rattle.table.specs.Rules.{allOf, t1Rows, t1Lines, t1Sizes, t2Row, t3, t4Sub, t4Sub1, t5, t6, t7, t8}
-use Rattle.table.specs.Entry.{Entry, mk, bitsOf, infoOf, lineIn, entryOk, padded, less, readNext, writeNext, AllApart}
+use Rattle.table.specs.Entry.{Entry, lineIn, entryOk, padded, less, readNext, writeNext, AllApart}
 use Rattle.table.specs.Memory.{entries, entryAt, known, sub1In, Stored}
 use Rattle.table.specs.declared.valid.Record.{Record}
 

@@ -1,6 +1,6 @@
 // The complete codes of the state rows, one after the other in byte order.
 ghost use mathlib.Core.Path.{_≡_};
-ghost use mathlib.Core.Bool.{true, false};
+ghost use mathlib.Core.Bool.{false};
 ghost use Prim.Native.Nat.{_<_, _≤_};
 ghost use lib.ListN.{getD, drop};
 ghost use Rattle.lists.specs.Pick.{pick};
@@ -16,7 +16,7 @@ const ROWS: usize = 16;
 
 const MARKS: usize = 64;
 
-// What the first of a code's four bytes counts.
+// What one in the first of a code's four bytes is worth in its 32 bits.
 const TOP: u32 = 16777216;
 
 // The complete code that comes next, or that none does.

@@ -1,7 +1,6 @@
 // The lines before CHARMAP: keys, their values, and state rows.
 ghost use mathlib.Core.Path.{_≡_};
 ghost use mathlib.Core.Bool.{true, false};
-ghost use mathlib.Core.List.{[]};
 ghost use Prim.Native.Nat.{_+_, _-_, _≤_, _<_};
 ghost use lib.ListN.{length, take, drop, replicate};
 ghost use Rattle.lists.specs.Pick.{pick};
@@ -63,7 +62,7 @@ pub enum Key {
 }
 
 // What stands behind a key. `Unfit`: not as the key wants it; `Later`: a class not built, or what icu:base has; `Any`: behind an ignored key.
-// `Row`: the word that opens it (0 none, 1 `initial`, 2 `surrogates`), whether an entry has a form under 14, whether one has a form under 15.
+// `Row`: the word that opens it (0 none, 1 `initial`, 2 `surrogates`), whether 14 is given for an entry, whether 15 is.
 pub enum Value {
     Unfit,
     Any,
@@ -97,14 +96,14 @@ pub struct Head {
     pub rows: u32,
 }
 
-// The entries of a row's text: whether all have the form, whether one has a form under 14, whether one has a form under 15.
+// The entries of a row's text: whether all have the form, whether 14 is given for one, whether 15 is.
 pub struct Forms {
     pub well: bool,
     pub later: bool,
     pub over: bool,
 }
 
-// The same bytes.
+// Whether two texts are the same bytes.
 fn matches(s: &[u8], w: &[u8]) -> bool
     ensures { λ r. ⌜ r ≡ same (now (s .entry)) (now (w .entry)) ⌝ }
 {
@@ -342,7 +341,7 @@ fn read_item(s: &[u8], at: usize) -> Item
     Item::Wrong
 }
 
-// Letter `s`, or an end with a next row other than 0.
+// 14 of an entry: letter `s`, or an end with a next row other than 0.
 fn later_column(e: Column) -> bool
     ensures { λ r. ⌜ r ≡ laterColumn e ⌝ }
 {
@@ -361,7 +360,7 @@ fn later_column(e: Column) -> bool
     true
 }
 
-// A falling range, or a next row over 7f.
+// 15 of an entry: a falling range, or a next row over 7f.
 fn over_column(e: Column) -> bool
     ensures { λ r. ⌜ r ≡ overColumn e ⌝ }
 {
@@ -397,7 +396,7 @@ fn mean(e: Column) -> u16
     0
 }
 
-// The entries from a place on: whether all are of the form, whether one has a form under 14, or under 15.
+// The entries from a place on: whether all have the form, whether 14 is given for one, whether 15 is.
 fn row_forms(s: &[u8], at: usize) -> Forms
     ensures { λ r. ⌜ (r .well ≡ wellAt (now (s .entry)) at) × (r .later ≡ anyOf laterColumn (columnsAt (now (s .entry)) at)) × (r .over ≡ anyOf overColumn (columnsAt (now (s .entry)) at)) ⌝ }
 {
@@ -430,7 +429,7 @@ fn row_forms(s: &[u8], at: usize) -> Forms
     }
 }
 
-// v in the places from to to; a falling range has none.
+// Puts v into the places `from` to `to`; a falling range has none.
 fn fill_range(row: &mut [u16], from: usize, to: usize, v: u16)
     requires { ⌜ to < length (now row) ⌝ }
     ensures { λ _. ⌜ now (row .exit) ≡ spread from to v (now (row .entry)) ⌝ }
@@ -442,7 +441,7 @@ fn fill_range(row: &mut [u16], from: usize, to: usize, v: u16)
     }
 }
 
-// The entries from a place on, later ones over earlier.
+// Puts the entries from a place on into a row, later ones over earlier.
 fn paint(s: &[u8], at: usize, row: &mut [u16])
     requires { ⌜ 256 ≤ length (now row) ⌝ }
     ensures { λ _. ⌜ now (row .exit) ≡ painted (columnsAt (now (s .entry)) at) (now (row .entry)) ⌝ }
@@ -495,7 +494,7 @@ fn opener(s: &[u8], p: usize) -> Num
     Num::Val(0, p)
 }
 
-// icu:state.
+// The value of icu:state: a row.
 fn row_value(s: &[u8]) -> Value
     ensures { λ r. ⌜ r ≡ rowIn (now (s .entry)) ⌝ }
 {
@@ -602,7 +601,7 @@ fn digit_value(v: &[u8]) -> u32
     0
 }
 
-// code_set_name: quoted, not empty.
+// The value of code_set_name: quoted, not empty.
 fn name_value(v: &[u8]) -> Value
     ensures { λ r. ⌜ r ≡ nameIn (quotedOf (now (v .entry))) ⌝ }
 {
@@ -637,7 +636,7 @@ fn class_name(w: &[u8]) -> Value
     Value::Unfit
 }
 
-// uconv_class.
+// The value of uconv_class.
 fn class_value(v: &[u8]) -> Value
     ensures { λ r. ⌜ r ≡ classIn (now (v .entry)) (quotedOf (now (v .entry))) ⌝ }
 {
@@ -648,7 +647,7 @@ fn class_value(v: &[u8]) -> Value
     }
 }
 
-// mb_cur_min.
+// The value of mb_cur_min.
 fn min_value(v: &[u8]) -> Value
     ensures { λ r. ⌜ r ≡ minIn (digitIn (now (v .entry)) (skipAt (now (v .entry)) 0)) ⌝ }
 {
@@ -659,7 +658,7 @@ fn min_value(v: &[u8]) -> Value
     Value::Min(d)
 }
 
-// mb_cur_max.
+// The value of mb_cur_max.
 fn max_value(v: &[u8]) -> Value
     ensures { λ r. ⌜ r ≡ maxIn (digitIn (now (v .entry)) (skipAt (now (v .entry)) 0)) ⌝ }
 {
@@ -670,7 +669,7 @@ fn max_value(v: &[u8]) -> Value
     Value::Max(d)
 }
 
-// subchar: 1 to 4 bytes, and nothing else.
+// The value of subchar: 1 to 4 bytes, and nothing else.
 fn sub_value(v: &[u8]) -> Value
     ensures { λ r. ⌜ r ≡ subIn (now (v .entry)) (bytesAt (now (v .entry)) 0) ⌝ }
 {
@@ -691,7 +690,7 @@ fn sub_value(v: &[u8]) -> Value
     Value::Unfit
 }
 
-// subchar1: one byte, and nothing else.
+// The value of subchar1: one byte, and nothing else.
 fn sub1_value(v: &[u8]) -> Value
     ensures { λ r. ⌜ r ≡ sub1Value (now (v .entry)) (bytesAt (now (v .entry)) 0) ⌝ }
 {
@@ -827,7 +826,7 @@ fn seen(h: Head, k: Key) -> bool
     }
 }
 
-// 14 of a row: `surrogates`, `initial` off row 0, or an entry with such a form.
+// 14 of a row: `surrogates`, `initial` off row 0, or 14 of an entry.
 fn row_later(rows: u32, w: u32, l: bool) -> bool
     ensures { λ r. ⌜ r ≡ rowLater rows w l ⌝ }
 {

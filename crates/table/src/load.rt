@@ -10,6 +10,7 @@ use crate::mapping::Mapped;
 use crate::mapping::read_last;
 use crate::mapping::read_mapping;
 use crate::states::Code;
+use crate::states::NEEDED;
 use crate::states::states_ok;
 use crate::store::insert_entry;
 use crate::store::read_taken;
@@ -17,6 +18,7 @@ use crate::store::write_taken;
 use crate::text::cut_line;
 use crate::text::zero_mappings;
 use crate::text::zero_states;
+use crate::valid::MAPPINGS;
 use crate::valid::Record;
 use crate::valid::keeps_t4;
 use crate::valid::keeps_t5;
@@ -40,22 +42,17 @@ ghost use Rattle.table.specs.Search.{readTaken, writeTaken};
 ghost use Rattle.table.specs.Valid.{Kept};
 ghost use Rattle.table.specs.Header.{lineOf, InRange};
 ghost use Rattle.table.specs.Mapping.{mappedOf, lastOf};
-ghost use Rattle.table.specs.Numbers.{n13, n16, n20, n22, n23, cond, lowest, rowsAt, keyConditions, charmapConditions, mappingConditions};
+ghost use Rattle.table.specs.Numbers.{numberOf, answerNumber, n13, n16, n20, n22, n23, cond, lowest, rowsAt, keyConditions, charmapConditions, mappingConditions};
 ghost use Rattle.table.specs.Load.{judged, reading, keep, keepRow, headAt, lineAs, headerStep, mappingStep, lastStep, phaseStep, emptyHead, refused, read, loadOf, Small, loadedAs, givenBy, loadedBy, leftBy, statesOf, codesOf, infosOf, orderedOf};
 ghost use Rattle.table.specs.Progress.{Lent, ProperHead, Holding, Held, Beyond, Taken};
 ghost use Rattle.table.specs.declared.load.Refusal.the-variants.{NoScalar, NoSuchCode, LeadingZero, NoSubchar1, BytesTaken, PointTaken, TooMany};
 ghost use Rattle.table.specs.declared.load.Verdict.the-variants.{Fine, Refuse};
 ghost use Rattle.table.specs.declared.load.Phase.the-variants.{Header, Mappings};
 
-// The sixteen-bit numbers that the states need, and the numbers that each mapping slice needs.
-const NEEDED: usize = 4096;
-
-const MAPPINGS: usize = 2048;
-
 // The longest text.
 const TEXT: usize = 1048576;
 
-// Before the first line.
+// What is known before the first line.
 const START: Progress = Progress {
     phase: Phase::Header,
     head: Head {
@@ -129,6 +126,41 @@ pub enum Went {
     Stop(Refusal),
 }
 
+// The number of a refusal in document 01.
+pub fn refusal_number(x: Refusal) -> u32
+    ensures { λ r. ⌜ r ≡ numberOf x ⌝ }
+{
+    match x {
+        Refusal::MemoryTooSmall => 1,
+        Refusal::TextTooLong => 2,
+        Refusal::NoForm => 10,
+        Refusal::KeyAgain => 11,
+        Refusal::UnfitValue => 12,
+        Refusal::KeyAbsent => 13,
+        Refusal::NotBuilt => 14,
+        Refusal::OutOfRange => 15,
+        Refusal::StatesBroken => 16,
+        Refusal::NoScalar => 20,
+        Refusal::NoSuchCode => 21,
+        Refusal::LeadingZero => 22,
+        Refusal::NoSubchar1 => 23,
+        Refusal::BytesTaken => 24,
+        Refusal::PointTaken => 25,
+        Refusal::TooMany => 26,
+        Refusal::NoEnd => 27,
+    }
+}
+
+// The number of the answer to a text: 0 where it is accepted.
+pub fn answer_number(a: Answer) -> u32
+    ensures { λ r. ⌜ r ≡ answerNumber a ⌝ }
+{
+    match a {
+        Answer::Accepted => 0,
+        Answer::Refused(x) => refusal_number(x),
+    }
+}
+
 // 13, at CHARMAP: a required key or row is absent; SBCS may be without rows.
 fn lacks_key(h: Head) -> bool
     ensures { λ r. ⌜ r ≡ n13 h ⌝ }
@@ -195,7 +227,7 @@ fn keeps_states(h: Head, states: &[u16]) -> bool
     false
 }
 
-// The line CHARMAP.
+// Reads the line CHARMAP.
 fn take_charmap(h: Head, states: &mut [u16]) -> Went
     requires { ⌜ ProperHead h × (h .rows ≤ 16) × (4096 ≤ length (now states)) ⌝ }
     ensures { λ r. ⌜ ((rows : List (List ℕ)) (codes infos order : List ℕ) → Holding limits h 0 rows [] (now (states .entry)) codes infos order
@@ -216,7 +248,7 @@ fn take_charmap(h: Head, states: &mut [u16]) -> Went
     Went::Stop(Refusal::StatesBroken)
 }
 
-// The line of a key.
+// Reads the line of a key.
 fn take_key(h: Head, k: Key, v: Value, line: &[u8], q: usize, e: usize, states: &mut [u16]) -> Went
     requires { ⌜ (q ≤ e) × (e ≤ length (now line)) × InRange v × (h .rows ≤ 16) × (4096 ≤ length (now states)) ⌝ }
     ensures { λ r. ⌜ ((rows : List (List ℕ)) (codes infos order : List ℕ) → Holding limits h 0 rows [] (now (states .entry)) codes infos order
@@ -237,7 +269,7 @@ fn take_key(h: Head, k: Key, v: Value, line: &[u8], q: usize, e: usize, states: 
     }
 }
 
-// A line before CHARMAP.
+// Reads a line before CHARMAP.
 fn take_header(h: Head, line: &[u8], states: &mut [u16]) -> Went
     requires { ⌜ ProperHead h × (h .rows ≤ 16) × (4096 ≤ length (now states)) ⌝ }
     ensures { λ r. ⌜ ((rows : List (List ℕ)) (codes infos order : List ℕ) → Holding limits h 0 rows [] (now (states .entry)) codes infos order
@@ -302,7 +334,7 @@ fn judge_mapping(h: Head, states: &[u16], u: u32, bits: u32, len: usize, d: u32)
     Verdict::Fine
 }
 
-// The second number of a stored mapping.
+// The second number of a stored mapping: code point, rank and count of bytes.
 fn info_of(u: u32, len: usize, d: u32) -> u32
     requires { ⌜ (u < 2097152) × (1 ≤ len) × (len ≤ 4) ⌝ }
     ensures { λ r. ⌜ (r ≡ u + 2097152 * rankOf d + 16777216 * (len - 1)) × (extraIn r < 4) ⌝ }
@@ -320,7 +352,7 @@ fn info_of(u: u32, len: usize, d: u32) -> u32
     base + 6291456
 }
 
-// 24 to 26, and the mapping into the slices if none holds.
+// 24 to 26; if none holds, the mapping is put into the slices.
 fn add_entry(
     codes: &mut [u32],
     infos: &mut [u32],
@@ -351,7 +383,7 @@ fn add_entry(
     Verdict::Fine
 }
 
-// A mapping of a code point, a code of `len` bytes and an indicator.
+// Adds a mapping of a code point, a code of `len` bytes and an indicator, if no condition holds.
 fn add_mapping(
     h: Head,
     n: u32,
@@ -388,7 +420,7 @@ fn add_mapping(
     }
 }
 
-// A line between CHARMAP and END CHARMAP.
+// Reads a line between CHARMAP and END CHARMAP.
 fn take_mapping(
     h: Head,
     n: u32,
@@ -423,7 +455,7 @@ fn take_mapping(
     }
 }
 
-// A line behind END CHARMAP.
+// Reads a line behind END CHARMAP.
 fn take_last(h: Head, n: u32, line: &[u8]) -> Went
     ensures { λ r. ⌜ ((rows : List (List ℕ)) (ls : List Line) (states codes infos order : List ℕ) → Holding limits h n rows ls states codes infos order
         → Taken limits (lastStep h rows ls (lastOf (now (line .entry)))) r states codes infos order) ⌝ }
@@ -442,7 +474,7 @@ fn take_last(h: Head, n: u32, line: &[u8]) -> Went
     }
 }
 
-// Takes one line.
+// Reads one line, by the part of the text that it stands in.
 fn take_line(
     p: Progress,
     line: &[u8],
@@ -558,7 +590,7 @@ fn run(
     }
 }
 
-// A lent slice is too short.
+// 1: a lent slice is too short.
 fn too_small(s: usize, c: usize, i: usize, o: usize) -> bool
     ensures { λ r. ⌜ r ≡ Small limits s c i o ⌝ }
 {

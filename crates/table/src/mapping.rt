@@ -10,7 +10,7 @@ use crate::text::skip;
 use crate::text::unicode;
 use crate::text::word;
 ghost use mathlib.Core.Path.{_≡_};
-ghost use Prim.Native.Nat.{ℕ, _≤_};
+ghost use Prim.Native.Nat.{_≤_};
 ghost use lib.ListN.{length};
 ghost use Rattle.table.specs.Text.{joinAt, unicodeAt, Keeps};
 ghost use Rattle.table.specs.Mapping.{pointsMore, indicatorAt, mappingForm, isEnd, mappedOf, lastOf, codedForm, MappedFits};

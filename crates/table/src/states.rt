@@ -18,8 +18,8 @@ const ROW: usize = 256;
 // The rows there can be.
 const ROWS: usize = 16;
 
-// The numbers that the states need.
-const NEEDED: usize = ROWS * ROW;
+// The numbers that the states of a table need.
+pub(crate) const NEEDED: usize = ROWS * ROW;
 
 // An entry of LEADS + n leads on to row n.
 const LEADS: u16 = 16;

@@ -15,7 +15,8 @@ ghost use Rattle.table.specs.Valid.{zeros, storeOk, Kept};
 // How often a search looks at an entry at most: enough for 4,095 of them.
 const LOOKS: u32 = 12;
 
-// A stored mapping (its code, and the rest of it), or that there is none.
+// A stored mapping by its two numbers, or that there is none. The first is the code; the second holds the code point,
+// how the line is read and written (its rank), and the count of bytes.
 pub enum Found {
     Hit(u32, u32),
     Nothing,
@@ -32,7 +33,7 @@ fn key_of(info: u32) -> u32
     k
 }
 
-// The first order: by code, then by the rest.
+// The first order: by code, then by the second number.
 pub(crate) fn entry_less(c: u32, i: u32, d: u32, j: u32) -> bool
     ensures { λ r. ⌜ r ≡ less (mk c i) (mk d j) ⌝ }
 {
@@ -45,7 +46,7 @@ pub(crate) fn entry_less(c: u32, i: u32, d: u32, j: u32) -> bool
     i < j
 }
 
-// The second order: by code point, lines that write first, then by code and the rest.
+// The second order: by code point, lines that write first, then by code and the second number.
 pub(crate) fn point_less(c: u32, i: u32, d: u32, j: u32) -> bool
     ensures { λ r. ⌜ r ≡ pointLess (mk c i) (mk d j) ⌝ }
 {
@@ -60,7 +61,7 @@ pub(crate) fn point_less(c: u32, i: u32, d: u32, j: u32) -> bool
     entry_less(c, i, d, j)
 }
 
-// All are zeros.
+// Whether all are zeros.
 pub(crate) fn zeros_ok(xs: &[u32]) -> bool
     ensures { λ r. ⌜ r ≡ zeros (now (xs .entry)) ⌝ }
 {
@@ -251,7 +252,7 @@ pub(crate) fn write_taken(
     }
 }
 
-// Puts x in at a position of the first n, which have one place more.
+// Puts x in at a place of the first n numbers; those from there on move up by one, the last into a free place.
 fn shift_in(xs: &mut [u32], n: usize, at: usize, x: u32)
     requires { ⌜ (at ≤ n) × (n < length (now xs)) ⌝ }
     ensures { λ _. ⌜ now (xs .exit) ≡ shiftIn n at x (now (xs .entry)) ⌝ }
@@ -287,7 +288,7 @@ fn renumber(order: &mut [u32], n: usize, at: usize)
     }
 }
 
-// A new entry into all three.
+// Puts a new mapping into all three slices.
 pub(crate) fn insert_entry(
     codes: &mut [u32],
     infos: &mut [u32],

@@ -1,7 +1,7 @@
 // The lines of a table's text, and the tokens of one line.
 ghost use mathlib.Core.Path.{_≡_};
 ghost use mathlib.Core.List.{_++_};
-ghost use Prim.Native.Nat.{ℕ, _+_, _-_, _≤_, _<_};
+ghost use Prim.Native.Nat.{_+_, _-_, _≤_, _<_};
 ghost use lib.Dec.{eqb};
 ghost use lib.ListN.{length, getD, take, drop, replicate};
 ghost use Rattle.table.specs.Text.{crBefore, firstLine, restLines, digitOf, byteOf, skipAt, begins, endsAt, byteAt, hexOf, unicodeAt, joinAt, bytesAt, runOf, isCharmap, Within, Keeps, Ran};

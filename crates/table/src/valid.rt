@@ -1,5 +1,6 @@
 // The test behind number 60: record and memory keep the rules and the form.
 use crate::states::Code;
+use crate::states::NEEDED;
 ghost use mathlib.Core.Path.{_≡_};
 ghost use mathlib.Core.Bool.{true, false};
 ghost use mathlib.Core.List.{[]};
@@ -16,10 +17,8 @@ ghost use Rattle.table.specs.Entry.{mk, lineIn, padded, entryOk, readNex
 ghost use Rattle.table.specs.Memory.{entries, sub1In};
 ghost use Rattle.table.specs.Valid.{ordered, recordOk, lineOk, storeOk, valid};
 
-// The mappings that a table can have, and the sixteen-bit numbers that its states need.
-const MAPPINGS: usize = 2048;
-
-const NEEDED: usize = 4096;
+// The mappings that a table can have, which is what each mapping slice needs.
+pub(crate) const MAPPINGS: usize = 2048;
 
 // What an accepted text hands back beside the memory. `subchar1` is 0 where none is given, else 1 + the byte.
 pub struct Record {
@@ -88,7 +87,7 @@ pub fn is_padded(len: u32, bits: u32) -> bool
     len == 4
 }
 
-// The two numbers are those of a line.
+// Whether the two numbers of a stored mapping are those of a line.
 fn entry_ok(bits: u32, info: u32) -> bool
     ensures { λ r. ⌜ r ≡ entryOk (mk bits info) ⌝ }
 {
@@ -241,7 +240,7 @@ fn order_ok(codes: &[u32], infos: &[u32], order: &[u32]) -> bool
     true
 }
 
-// The mapping slices.
+// The mapping slices: long enough, every mapping and its order right, zeros behind the last.
 fn mappings_ok(steps: &[u16], rec: Record, codes: &[u32], infos: &[u32], order: &[u32]) -> bool
     requires { ⌜ rec .mappings ≤ 2048 ⌝ }
     ensures { λ r. ⌜ r ≡ pick (storeOk 2048 (rec .mappings) (now (codes .entry)) (now (infos .entry)) (now (order .entry)))

@@ -1,7 +1,8 @@
 use mathlib.Core.Path.{sym, ap, _∙_}
 use borrow.Author.Needs.{needs}
 use Rattle.table.specs.declared.load.Loaded.{Loaded}
-use Rattle.cabi.specs.Exported.{answerNumber, loadedNumbers, withNumbers}
+use Rattle.table.specs.Numbers.{answerNumber}
+use Rattle.cabi.specs.Exported.{loadedNumbers, withNumbers}
 use Rattle.cabi.proofs.Lengths.{fewer, enough}
 use Rattle.cabi.proofs.oboepond_load.Statement.{statement}
 use Rattle.cabi.proofs.oboepond_load.Tie as tie

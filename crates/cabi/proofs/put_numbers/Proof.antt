@@ -5,7 +5,7 @@ use native.Mathlib.Omega.{arith}
 use lib.ListN.{length, take, drop, length-set}
 use lib.Seq.{take-length}
 use borrow.Author.Needs.{needs}
-use Rattle.cabi.proofs.Copied.{copied-more, placed-front}
+use Rattle.lists.proofs.Copied.{copied-more, placed-front}
 use Rattle.cabi.proofs.put_numbers.Statement.{statement}
 use Rattle.cabi.proofs.put_numbers.Tie as tie
 

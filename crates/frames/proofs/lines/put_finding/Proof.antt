@@ -6,9 +6,11 @@ use native.Mathlib.Omega.{arith}
 use borrow.Author.Needs.{needs}
 use denote.Ref.{now}
 use lib.ListN.{length, set, length-set}
-use Rattle.frames.specs.Lines.{codeBytes, hexCount, hexOf, findingLine}
+use Rattle.table.specs.Codes.{unpacked}
+use Rattle.table.proofs.Packing.{length-unpacked}
+use Rattle.frames.specs.Lines.{hexCount, hexOf, findingLine}
 use Rattle.frames.proofs.Writes.{wrote-start, wrote-number, wrote-more, wrote-all, wrote-none, length-finding}
-use Rattle.frames.proofs.Hex.{count-most, length-code, length-hexOf}
+use Rattle.frames.proofs.Hex.{count-most, length-hexOf}
 use Rattle.frames.proofs.lines.put_finding.Statement.{statement}
 use Rattle.frames.proofs.lines.put_finding.Tie as tie
 
@@ -30,8 +32,8 @@ add-if1-2 c = omega (arith, count-most (c .before .before .before .before .args 
 returns : tie.Need-returns
 returns c =
     let a = c .before .before .before .before .before .args in
-    let code = codeBytes (a .len) (a .bits) in
-    let k : hexCount (length code) ≡ hexCount (a .len) = ap hexCount (length-code (a .len) (a .bits)) in
+    let code = unpacked (a .len) (a .bits) in
+    let k : hexCount (length code) ≡ hexCount (a .len) = ap hexCount (length-unpacked (a .len) (a .bits)) in
     wrote-none (now (a .out)) (a .at) (findingLine code (a .cause)) (omega (arith, length-finding code (a .cause)))
 
 write-code-requires : tie.Need-write-code-requires
@@ -62,8 +64,8 @@ returns-2 c =
     let d = c .before .before .before .before .before .before .before .before .before .before .before .before .decimal-count in
     let f = c .before .before .before .before .before .before .before .write-code in
     let g = c .before .before .write-number in
-    let code = codeBytes (a .len) (a .bits) in
-    let k : hexCount (length code) ≡ hexCount (a .len) = ap hexCount (length-code (a .len) (a .bits)) in
+    let code = unpacked (a .len) (a .bits) in
+    let k : hexCount (length code) ≡ hexCount (a .len) = ap hexCount (length-unpacked (a .len) (a .bits)) in
     let w = wrote-more (wrote-start (now (a .out)) (a .at)) (hexOf code) (f .result) (f .last .1 .1 .0) (f .ensures .1) (f .ensures .0 ∙ omega (arith, k, length-hexOf code)) in
     let v = wrote-number w (32 ∷ []) (a .cause) (d .result) (g .result) (g .last .1 .1 .1 .0) (d .ensures .0) (g .ensures .1) (g .ensures .0) in
     let u = wrote-more v (10 ∷ []) (g .result + 1) (set (g .last .1 .1 .1 .0) (g .result) 10) refl refl in

@@ -5,13 +5,15 @@ use native.Mathlib.Omega.{arith}
 use borrow.Author.Needs.{needs}
 use lib.ListN.{length}
 use lib.Seq.{sets}
-use Rattle.frames.specs.Lines.{hexBytes, codeBytes}
-use Rattle.frames.proofs.Hex.{code-stored, code-done, length-code, hex-none, hex-some, count-none, count-some}
+use Rattle.table.specs.Codes.{unpacked}
+use Rattle.table.proofs.Packing.{length-unpacked}
+use Rattle.frames.specs.Lines.{hexBytes}
+use Rattle.frames.proofs.Hex.{code-stored, code-done, hex-none, hex-some, count-none, count-some}
 use Rattle.frames.proofs.lines.write_code.Statement.{statement}
 use Rattle.frames.proofs.lines.write_code.Tie as tie
 
 abbrev Inv-loop : tie.InvT-loop
-Inv-loop bits len out₀ at rest₀ left₀ p₀ out rest left p = (sets out p (hexBytes (codeBytes left rest)) ≡ sets out₀ at (hexBytes (codeBytes len bits))) × (p + 2 * left ≡ at + 2 * len) × (length out ≡ length out₀) × (rest < 2 ^ 32)
+Inv-loop bits len out₀ at rest₀ left₀ p₀ out rest left p = (sets out p (hexBytes (unpacked left rest)) ≡ sets out₀ at (hexBytes (unpacked len bits))) × (p + 2 * left ≡ at + 2 * len) × (length out ≡ length out₀) × (rest < 2 ^ 32)
 
 abbrev μ-loop : tie.MeasureT-loop
 μ-loop bits len out₀ at rest₀ left₀ p₀ out rest left p = left
@@ -28,7 +30,7 @@ same-length c = search needs
 returns : tie.Need-returns Inv-loop μ-loop
 returns c =
     let a = c .before .before .args in
-    (omega (arith, count-none (a .len) (c .if1 .taken)), rw (hex-none (codeBytes (a .len) (a .bits)) (length-code (a .len) (a .bits) ∙ c .if1 .taken)))
+    (omega (arith, count-none (a .len) (c .if1 .taken)), rw (hex-none (unpacked (a .len) (a .bits)) (length-unpacked (a .len) (a .bits) ∙ c .if1 .taken)))
 
 loop-holds : tie.Need-loop-holds Inv-loop μ-loop
 loop-holds c = (refl, refl, refl, search needs)
@@ -63,7 +65,7 @@ returns-2 : tie.Need-returns-2 Inv-loop μ-loop
 returns-2 c =
     let l = c .before .loop in
     let a = c .before .before .before .before .args in
-    (omega (arith, count-some (a .len) (c .before .before .if1 .left)), rw (hex-some (codeBytes (a .len) (a .bits)) (λ e. c .before .before .if1 .left (sym (length-code (a .len) (a .bits)) ∙ e))) (sym (code-done (l .out) (l .p) (l .left) (l .rest) (omega arith)) ∙ l .inv .0))
+    (omega (arith, count-some (a .len) (c .before .before .if1 .left)), rw (hex-some (unpacked (a .len) (a .bits)) (λ e. c .before .before .if1 .left (sym (length-unpacked (a .len) (a .bits)) ∙ e))) (sym (code-done (l .out) (l .p) (l .left) (l .rest) (omega arith)) ∙ l .inv .0))
 
 pub write-code-spec : {M : Type 1} → statement M
 write-code-spec =

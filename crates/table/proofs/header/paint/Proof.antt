@@ -5,7 +5,8 @@ use native.Mathlib.Nat.{sub-zero}
 use lib.ListN.{length}
 use borrow.Author.Needs.{needs}
 use Rattle.table.specs.Row.{itemAt, Fits, columnsGo, columnsAt, painted}
-use Rattle.table.proofs.RowText.{fuel, paint-more, paint-last, paint-wrong}
+use Rattle.lists.proofs.Parts.{left-step}
+use Rattle.table.proofs.RowText.{paint-more, paint-last, paint-wrong}
 use Rattle.table.proofs.header.paint.Statement.{statement}
 use Rattle.table.proofs.header.paint.Tie as tie
 
@@ -81,7 +82,7 @@ loop-less c = let h = rw (c .before .before .before .before .before .before .bef
 
 loop-again : tie.Need-loop-again Inv-loop μ-loop
 unfolding Fits
-loop-again c = let h = rw (c .before .before .before .before .before .before .before .before .x2 .given .1) at (c .before .before .before .before .before .before .before .before .before .before .read-item .ensures .1) in let l = c .before .before .before .before .before .before .before .before .before .before .before .loop in let lt : l .n < length (c .before .before .before .before .before .before .before .before .before .before .before .before .before .before .args .s .now) = omega arith in (rw (l .inv .0, ← c .before .before .before .before .before .before .before .before .before .before .read-item .ensures .0, c .before .before .before .before .before .before .before .before .x2 .given .1, fuel _ _ lt, paint-more, ← c .before .before .before .mean2 .ensures, ← c .before .before .fill-range2 .ensures), omega arith, omega arith)
+loop-again c = let h = rw (c .before .before .before .before .before .before .before .before .x2 .given .1) at (c .before .before .before .before .before .before .before .before .before .before .read-item .ensures .1) in let l = c .before .before .before .before .before .before .before .before .before .before .before .loop in let lt : l .n < length (c .before .before .before .before .before .before .before .before .before .before .before .before .before .before .args .s .now) = omega arith in (rw (l .inv .0, ← c .before .before .before .before .before .before .before .before .before .before .read-item .ensures .0, c .before .before .before .before .before .before .before .before .x2 .given .1, left-step _ _ lt, paint-more, ← c .before .before .before .mean2 .ensures, ← c .before .before .fill-range2 .ensures), omega arith, omega arith)
 
 pub paint-spec : {M : Type 1} → statement M
 paint-spec =

@@ -8,7 +8,8 @@ use borrow.Author.Needs.{needs}
 use Rattle.lists.specs.Pick.{pick}
 use Rattle.table.specs.Row.{itemAt, Fits, columnsGo, wellGo, columnsAt, wellAt, laterColumn, overColumn}
 use Rattle.table.specs.Rules.{anyOf}
-use Rattle.table.proofs.RowText.{any-more, any-last, any-wrong, well-more, well-last, well-wrong, fuel}
+use Rattle.lists.proofs.Parts.{left-step}
+use Rattle.table.proofs.RowText.{any-more, any-last, any-wrong, well-more, well-last, well-wrong}
 use Rattle.table.proofs.header.row_forms.Statement.{statement}
 use Rattle.table.proofs.header.row_forms.Tie as tie
 
@@ -62,7 +63,7 @@ loop-less c = let h = rw (c .before .before .before .x2 .given .1) at (c .before
 
 loop-again : tie.Need-loop-again Inv-loop μ-loop
 unfolding Fits
-loop-again c = let h = rw (c .before .before .before .x2 .given .1) at (c .before .before .before .before .before .read-item .ensures .1) in let l = c .before .before .before .before .before .before .loop in let lt : l .n < length (c .before .before .before .before .before .before .before .before .args .s .now) = omega arith in (rw (l .inv .0, ← c .before .before .before .before .before .read-item .ensures .0, c .before .before .before .x2 .given .1, fuel _ _ lt, well-more), rw (l .inv .1, ← c .before .before .before .before .before .read-item .ensures .0, c .before .before .before .x2 .given .1, fuel _ _ lt, any-more, ← c .before .later-column2 .ensures), rw (l .inv .2, ← c .before .before .before .before .before .read-item .ensures .0, c .before .before .before .x2 .given .1, fuel _ _ lt, any-more, ← c .over-column2 .ensures), omega arith)
+loop-again c = let h = rw (c .before .before .before .x2 .given .1) at (c .before .before .before .before .before .read-item .ensures .1) in let l = c .before .before .before .before .before .before .loop in let lt : l .n < length (c .before .before .before .before .before .before .before .before .args .s .now) = omega arith in (rw (l .inv .0, ← c .before .before .before .before .before .read-item .ensures .0, c .before .before .before .x2 .given .1, left-step _ _ lt, well-more), rw (l .inv .1, ← c .before .before .before .before .before .read-item .ensures .0, c .before .before .before .x2 .given .1, left-step _ _ lt, any-more, ← c .before .later-column2 .ensures), rw (l .inv .2, ← c .before .before .before .before .before .read-item .ensures .0, c .before .before .before .x2 .given .1, left-step _ _ lt, any-more, ← c .over-column2 .ensures), omega arith)
 
 pub row-forms-spec : {M : Type 1} → statement M
 row-forms-spec =

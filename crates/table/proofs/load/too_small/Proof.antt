@@ -1,4 +1,3 @@
-use borrow.Author.Needs.{needs}
 use Rattle.lists.proofs.Laws.{tests}
 use Rattle.table.proofs.load.too_small.Statement.{statement}
 use Rattle.table.proofs.load.too_small.Tie as tie

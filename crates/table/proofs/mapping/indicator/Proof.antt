@@ -1,15 +1,10 @@
 use mathlib.Core.Path.{sym, _∙_}
-use Prim.Native.Nat.{_-_}
 use native.Mathlib.Omega.{arith}
 use Rattle.table.specs.Mapping.{indicatorAt}
 use Rattle.table.proofs.TextLaws.{scan, ends-inside}
 use borrow.Author.Needs.{needs}
 use Rattle.table.proofs.mapping.indicator.Statement.{statement}
 use Rattle.table.proofs.mapping.indicator.Tie as tie
-use Rattle.table.proofs.mapping.indicator.Reads as reads
-use Rattle.table.proofs.mapping.indicator.Lts as lts
-use Rattle.table.proofs.text.ends.Reads as ends-reads
-use Rattle.table.proofs.text.skip.Reads as skip-reads
 
 ends-requires : tie.Need-ends-requires
 ends-requires c κs = search needs

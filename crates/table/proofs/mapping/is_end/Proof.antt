@@ -1,15 +1,9 @@
-use Prim.Native.Nat.{_-_}
 use Rattle.table.specs.Mapping.{isEnd}
 use Rattle.table.proofs.TextLaws.{scan}
 use Rattle.table.proofs.MappingLaws.{charmap-none}
 use borrow.Author.Needs.{needs}
 use Rattle.table.proofs.mapping.is_end.Statement.{statement}
 use Rattle.table.proofs.mapping.is_end.Tie as tie
-use Rattle.table.proofs.mapping.is_end.Reads as reads
-use Rattle.table.proofs.mapping.is_end.Lts as lts
-use Rattle.table.proofs.text.is_charmap.Reads as is-charmap-reads
-use Rattle.table.proofs.text.skip.Reads as skip-reads
-use Rattle.table.proofs.text.word.Reads as word-reads
 
 slice-aggregate-word : tie.Need-slice-aggregate-word
 slice-aggregate-word c = search needs

@@ -1,5 +1,4 @@
 use mathlib.Core.Path.{sym}
-use Prim.Native.Nat.{_-_}
 use native.Mathlib.Omega.{arith}
 use Rattle.table.specs.Text.{Keeps, Ran}
 use Rattle.table.specs.Mapping.{pointsForm, mappingForm, MappedFits}
@@ -7,13 +6,6 @@ use Rattle.table.proofs.MappingLaws.{codedEnd, codedRun, coded-run, end
 use borrow.Author.Needs.{needs}
 use Rattle.table.proofs.mapping.mapping_line.Statement.{statement}
 use Rattle.table.proofs.mapping.mapping_line.Tie as tie
-use Rattle.table.proofs.mapping.mapping_line.Reads as reads
-use Rattle.table.proofs.mapping.mapping_line.Lts as lts
-use Rattle.table.proofs.mapping.indicator.Reads as indicator-reads
-use Rattle.table.proofs.mapping.more_points.Reads as more-points-reads
-use Rattle.table.proofs.text.bytes_run.Reads as bytes-run-reads
-use Rattle.table.proofs.text.skip.Reads as skip-reads
-use Rattle.table.proofs.text.unicode.Reads as unicode-reads
 
 unicode-requires : tie.Need-unicode-requires
 unicode-requires c κs = search needs

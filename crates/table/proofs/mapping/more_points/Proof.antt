@@ -11,12 +11,6 @@ use Rattle.table.proofs.MappingLaws.{points-more, points-wrong, points-
 use borrow.Author.Needs.{needs}
 use Rattle.table.proofs.mapping.more_points.Statement.{statement}
 use Rattle.table.proofs.mapping.more_points.Tie as tie
-use Rattle.table.proofs.mapping.more_points.Reads as reads
-use Rattle.table.proofs.mapping.more_points.Lts as lts
-use Rattle.table.proofs.text.join.Reads as join-reads
-use Rattle.table.proofs.text.plus.Reads as plus-reads
-use Rattle.table.proofs.text.skip.Reads as skip-reads
-use Rattle.table.proofs.text.unicode.Reads as unicode-reads
 
 record Going (s : List ℕ) (at several i : ℕ) : Type 0 where
   fuel : ℕ

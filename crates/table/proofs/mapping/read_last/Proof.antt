@@ -1,16 +1,10 @@
 use mathlib.Core.Path.{sym, _∙_}
-use Prim.Native.Nat.{_-_}
 use native.Mathlib.Omega.{arith}
 use Rattle.table.specs.Mapping.{lastAt, lastOf}
 use Rattle.table.proofs.TextLaws.{ends-inside}
 use borrow.Author.Needs.{needs}
 use Rattle.table.proofs.mapping.read_last.Statement.{statement}
 use Rattle.table.proofs.mapping.read_last.Tie as tie
-use Rattle.table.proofs.mapping.read_last.Reads as reads
-use Rattle.table.proofs.mapping.read_last.Lts as lts
-use Rattle.table.proofs.text.ends.Reads as ends-reads
-use Rattle.table.proofs.text.is_charmap.Reads as is-charmap-reads
-use Rattle.table.proofs.text.skip.Reads as skip-reads
 
 skip-requires : tie.Need-skip-requires
 skip-requires c κs = search needs

@@ -1,5 +1,4 @@
 use mathlib.Core.Path.{sym, _∙_}
-use Prim.Native.Nat.{_-_}
 use native.Mathlib.Omega.{arith}
 use Rattle.table.specs.Mapping.{formAt, mappedOf, MappedFits}
 use Rattle.table.proofs.TextLaws.{ends-inside}
@@ -7,13 +6,6 @@ use Rattle.table.proofs.MappingLaws.{form-mapping, form-word}
 use borrow.Author.Needs.{needs}
 use Rattle.table.proofs.mapping.read_mapping.Statement.{statement}
 use Rattle.table.proofs.mapping.read_mapping.Tie as tie
-use Rattle.table.proofs.mapping.read_mapping.Reads as reads
-use Rattle.table.proofs.mapping.read_mapping.Lts as lts
-use Rattle.table.proofs.mapping.is_end.Reads as is-end-reads
-use Rattle.table.proofs.mapping.mapping_line.Reads as mapping-line-reads
-use Rattle.table.proofs.text.ends.Reads as ends-reads
-use Rattle.table.proofs.text.is_charmap.Reads as is-charmap-reads
-use Rattle.table.proofs.text.skip.Reads as skip-reads
 
 skip-requires : tie.Need-skip-requires
 skip-requires c κs = search needs

@@ -1,7 +1,6 @@
 use Rattle.table.proofs.StoreLaws.{first-lengths, ok-codes, ok-infos, ok-order, ok-short, ok-inside, ok-rising, ok-index, point-large, point-none, point-found}
 use lib.Seq.{length-take-le}
 use mathlib.Core.Path.{refl, sym}
-use Prim.Native.Nat.{_-_}
 use native.Mathlib.Omega.{arith}
 use lib.ListN.{getD}
 use borrow.Author.Needs.{needs}

@@ -2,7 +2,6 @@ use Rattle.table.proofs.Inserted.{place-needs, point-needs, renumber-ne
 use Rattle.table.specs.Entry.{mk}
 use lib.Seq.{length-take-le}
 use mathlib.Core.Path.{sym, _∙_}
-use Prim.Native.Nat.{_-_}
 use native.Mathlib.Omega.{arith}
 use borrow.Author.Needs.{needs}
 use Rattle.table.proofs.store.insert_entry.Statement.{statement}

@@ -5,7 +5,7 @@ use Rattle.table.specs.Search.{placeIn}
 use Rattle.table.specs.Memory.{entries}
 use Rattle.table.specs.Entry.{mk, less}
 use mathlib.Core.Path.{sym, _∙_}
-use Prim.Native.Nat.{_+_, _/_, _-_, _<_, _≤_}
+use Prim.Native.Nat.{_+_, _/_, _<_, _≤_}
 use native.Mathlib.Omega.{arith}
 use lib.ListN.{length}
 use borrow.Author.Needs.{needs}

@@ -5,7 +5,7 @@ use Rattle.lists.specs.Order.{Rising, All}
 use Rattle.table.specs.Search.{pointPlaceIn, picked}
 use Rattle.table.specs.Entry.{mk, pointLess}
 use mathlib.Core.Path.{sym, _∙_}
-use Prim.Native.Nat.{_+_, _/_, _-_, _<_, _≤_}
+use Prim.Native.Nat.{_+_, _/_, _<_, _≤_}
 use native.Mathlib.Omega.{arith}
 use lib.ListN.{length}
 use borrow.Author.Needs.{needs}

@@ -1,4 +1,3 @@
-use Prim.Native.Nat.{_-_}
 use Rattle.lists.proofs.Laws.{tests}
 use Rattle.table.proofs.EntryLaws.{point-is}
 use borrow.Author.Needs.{needs}

@@ -2,7 +2,6 @@ use Rattle.table.proofs.StoreLaws.{isHit, read-not-taken, read-taken-is
 use Rattle.table.specs.Memory.{entries}
 use Rattle.table.specs.Entry.{mk}
 use mathlib.Core.Path.{sym, ap, _∙_}
-use Prim.Native.Nat.{_-_}
 use native.Mathlib.Omega.{arith}
 use lib.ListN.{take}
 use borrow.Author.Needs.{needs}

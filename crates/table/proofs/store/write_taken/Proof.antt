@@ -3,7 +3,6 @@ use Rattle.table.proofs.Sorted.{form-store}
 use Rattle.table.specs.Memory.{entries}
 use Rattle.table.specs.Entry.{mk}
 use mathlib.Core.Path.{sym, ap, _∙_}
-use Prim.Native.Nat.{_-_}
 use lib.ListN.{take}
 use borrow.Author.Needs.{needs}
 use Rattle.table.proofs.store.write_taken.Statement.{statement}

@@ -1,13 +1,9 @@
-use Prim.Native.Nat.{_-_}
 use native.Mathlib.Omega.{arith}
 use Rattle.table.specs.Text.{byteAt, Within}
 use Rattle.table.proofs.TextLaws.{scan}
 use borrow.Author.Needs.{needs}
 use Rattle.table.proofs.text.byte.Statement.{statement}
 use Rattle.table.proofs.text.byte.Tie as tie
-use Rattle.table.proofs.text.byte.Reads as reads
-use Rattle.table.proofs.text.byte.Lts as lts
-use Rattle.table.proofs.text.digit.Reads as digit-reads
 
 returns : tie.Need-returns
 unfolding byteAt Within

@@ -9,12 +9,6 @@ use Rattle.table.specs.Text.{byteAt, plusAt, joinAt, bytesMore, bytesAt,
 use borrow.Author.Needs.{needs}
 use Rattle.table.proofs.text.bytes_run.Statement.{statement}
 use Rattle.table.proofs.text.bytes_run.Tie as tie
-use Rattle.table.proofs.text.bytes_run.Reads as reads
-use Rattle.table.proofs.text.bytes_run.Lts as lts
-use Rattle.table.proofs.text.byte.Reads as byte-reads
-use Rattle.table.proofs.text.join.Reads as join-reads
-use Rattle.table.proofs.text.plus.Reads as plus-reads
-use Rattle.table.proofs.text.skip.Reads as skip-reads
 
 abbrev Inv-loop : tie.InvT-loop
 Inv-loop s at first q i₀ bits₀ weight₀ len₀ joined₀ i bits weight len joined = (runOf (bytesAt s at) ≡ onRun bits weight len joined (bytesMore (length s + 1 - len) s i (byteAt s (joinAt s i)))) × (1 ≤ len) × (len ≤ i) × (at ≤ i) × (i ≤ length s) × Room bits weight

@@ -1,12 +1,9 @@
-use Prim.Native.Nat.{_-_}
 use Rattle.table.specs.Text.{crBefore}
 use Rattle.table.proofs.LinesLaws.{not-cr}
 use Rattle.lists.proofs.Laws.{tests, drop-step, drop-end}
 use borrow.Author.Needs.{needs}
 use Rattle.table.proofs.text.cr_before.Statement.{statement}
 use Rattle.table.proofs.text.cr_before.Tie as tie
-use Rattle.table.proofs.text.cr_before.Reads as reads
-use Rattle.table.proofs.text.cr_before.Lts as lts
 
 shared-slice-read-if1 : tie.Need-shared-slice-read-if1
 shared-slice-read-if1 c = search needs

@@ -11,9 +11,6 @@ use lib.Seq.{drop-drop}
 use Rattle.lists.proofs.Laws.{tests, drop-step, drop-end}
 use Rattle.table.proofs.text.cut_line.Statement.{statement}
 use Rattle.table.proofs.text.cut_line.Tie as tie
-use Rattle.table.proofs.text.cut_line.Reads as reads
-use Rattle.table.proofs.text.cut_line.Lts as lts
-use Rattle.table.proofs.text.cr_before.Reads as cr-before-reads
 
 abbrev Inv-loop : tie.InvT-loop
 Inv-loop text at i₀ i = (firstLine (drop at text) ≡ take (i - at) (drop at text) ++ firstLine (drop i text)) × (restLines (drop at text) ≡ restLines (drop i text)) × (at ≤ i) × (i ≤ length text)

@@ -1,11 +1,8 @@
-use Prim.Native.Nat.{_-_}
 use Rattle.lists.proofs.Laws.{tests}
 use Rattle.table.specs.Text.{digitOf}
 use borrow.Author.Needs.{needs}
 use Rattle.table.proofs.text.digit.Statement.{statement}
 use Rattle.table.proofs.text.digit.Tie as tie
-use Rattle.table.proofs.text.digit.Reads as reads
-use Rattle.table.proofs.text.digit.Lts as lts
 
 returns : tie.Need-returns
 unfolding digitOf

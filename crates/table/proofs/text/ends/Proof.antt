@@ -1,11 +1,8 @@
-use Prim.Native.Nat.{_-_}
 use Rattle.table.specs.Text.{endsAt}
 use Rattle.table.proofs.TextLaws.{scan}
 use borrow.Author.Needs.{needs}
 use Rattle.table.proofs.text.ends.Statement.{statement}
 use Rattle.table.proofs.text.ends.Tie as tie
-use Rattle.table.proofs.text.ends.Reads as reads
-use Rattle.table.proofs.text.ends.Lts as lts
 
 returns : tie.Need-returns
 unfolding endsAt

@@ -8,9 +8,6 @@ use Rattle.table.proofs.TextLaws.{hex-more, hex-small}
 use borrow.Author.Needs.{needs}
 use Rattle.table.proofs.text.hex.Statement.{statement}
 use Rattle.table.proofs.text.hex.Tie as tie
-use Rattle.table.proofs.text.hex.Reads as reads
-use Rattle.table.proofs.text.hex.Lts as lts
-use Rattle.table.proofs.text.digit.Reads as digit-reads
 
 abbrev Inv-loop : tie.InvT-loop
 Inv-loop s at i₀ n₀ v₀ i n v = (hexOf 0 0 at (drop at s) ≡ hexOf n v i (drop i s)) × (n ≤ 6) × (v < 16 ^ n) × (at ≤ i)

@@ -1,13 +1,7 @@
-use Prim.Native.Nat.{_-_}
 use Rattle.table.specs.Text.{isCharmap}
 use borrow.Author.Needs.{needs}
 use Rattle.table.proofs.text.is_charmap.Statement.{statement}
 use Rattle.table.proofs.text.is_charmap.Tie as tie
-use Rattle.table.proofs.text.is_charmap.Reads as reads
-use Rattle.table.proofs.text.is_charmap.Lts as lts
-use Rattle.table.proofs.text.ends.Reads as ends-reads
-use Rattle.table.proofs.text.skip.Reads as skip-reads
-use Rattle.table.proofs.text.word.Reads as word-reads
 
 slice-aggregate-word : tie.Need-slice-aggregate-word
 slice-aggregate-word c = search needs

@@ -1,13 +1,9 @@
-use Prim.Native.Nat.{_-_}
 use native.Mathlib.Omega.{arith}
 use Rattle.table.specs.Text.{joinAt}
 use Rattle.table.proofs.TextLaws.{scan}
 use borrow.Author.Needs.{needs}
 use Rattle.table.proofs.text.join.Statement.{statement}
 use Rattle.table.proofs.text.join.Tie as tie
-use Rattle.table.proofs.text.join.Reads as reads
-use Rattle.table.proofs.text.join.Lts as lts
-use Rattle.table.proofs.text.skip.Reads as skip-reads
 
 skip-requires : tie.Need-skip-requires
 skip-requires c κs = search needs

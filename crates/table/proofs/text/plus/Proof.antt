@@ -1,10 +1,7 @@
-use Prim.Native.Nat.{_-_}
 use Rattle.table.proofs.TextLaws.{scan}
 use borrow.Author.Needs.{needs}
 use Rattle.table.proofs.text.plus.Statement.{statement}
 use Rattle.table.proofs.text.plus.Tie as tie
-use Rattle.table.proofs.text.plus.Reads as reads
-use Rattle.table.proofs.text.plus.Lts as lts
 
 returns : tie.Need-returns
 returns c = search scan

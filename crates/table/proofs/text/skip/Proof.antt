@@ -7,8 +7,6 @@ use Rattle.table.specs.Text.{skipOf}
 use borrow.Author.Needs.{needs}
 use Rattle.table.proofs.text.skip.Statement.{statement}
 use Rattle.table.proofs.text.skip.Tie as tie
-use Rattle.table.proofs.text.skip.Reads as reads
-use Rattle.table.proofs.text.skip.Lts as lts
 
 abbrev Inv-loop : tie.InvT-loop
 Inv-loop s at i₀ i = (skipOf at (drop at s) ≡ skipOf i (drop i s)) × (at ≤ i)

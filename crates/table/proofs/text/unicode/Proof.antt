@@ -1,13 +1,9 @@
-use Prim.Native.Nat.{_-_}
 use native.Mathlib.Omega.{arith}
 use Rattle.table.specs.Text.{unicodeAt, Keeps}
 use Rattle.table.proofs.TextLaws.{scan, keeps-past}
 use borrow.Author.Needs.{needs}
 use Rattle.table.proofs.text.unicode.Statement.{statement}
 use Rattle.table.proofs.text.unicode.Tie as tie
-use Rattle.table.proofs.text.unicode.Reads as reads
-use Rattle.table.proofs.text.unicode.Lts as lts
-use Rattle.table.proofs.text.hex.Reads as hex-reads
 
 returns : tie.Need-returns
 unfolding unicodeAt Keeps

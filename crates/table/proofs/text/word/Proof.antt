@@ -7,8 +7,6 @@ use Rattle.table.specs.Text.{begins}
 use borrow.Author.Needs.{needs}
 use Rattle.table.proofs.text.word.Statement.{statement}
 use Rattle.table.proofs.text.word.Tie as tie
-use Rattle.table.proofs.text.word.Reads as reads
-use Rattle.table.proofs.text.word.Lts as lts
 
 abbrev Inv-loop : tie.InvT-loop
 Inv-loop s at w i₀ j₀ i j = (begins w (drop at s) ≡ begins (drop i w) (drop j s)) × (j ≤ length s)

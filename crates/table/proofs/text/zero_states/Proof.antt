@@ -7,8 +7,6 @@ use lib.ListN.{length, drop, length-set, replicate}
 use borrow.Author.Needs.{needs}
 use Rattle.table.proofs.text.zero_states.Statement.{statement}
 use Rattle.table.proofs.text.zero_states.Tie as tie
-use Rattle.table.proofs.text.zero_states.Reads as reads
-use Rattle.table.proofs.text.zero_states.Lts as lts
 
 abbrev Inv-loop : tie.InvT-loop
 Inv-loop xs₀ n i₀ xs i = (xs ≡ replicate i 0 ++ drop i xs₀) × (i ≤ n) × (length xs ≡ length xs₀)

@@ -1,5 +1,4 @@
 use Rattle.table.specs.Entry.{entryOk}
-use Prim.Native.Nat.{_-_}
 use borrow.Author.Needs.{needs}
 use Rattle.lists.proofs.Laws.{tests}
 use Rattle.table.proofs.valid.entry_ok.Statement.{statement}

@@ -1,5 +1,4 @@
 use Rattle.table.specs.Entry.{padded}
-use Prim.Native.Nat.{_-_}
 use Rattle.lists.proofs.Laws.{tests}
 use Rattle.table.proofs.valid.is_padded.Statement.{statement}
 use Rattle.table.proofs.valid.is_padded.Tie as tie

@@ -1,6 +1,5 @@
 use Rattle.table.proofs.ValidLaws.{t4-one, t4-none}
 use Rattle.table.specs.States.{stepAt}
-use Prim.Native.Nat.{_-_}
 use borrow.Author.Needs.{needs}
 use Rattle.lists.proofs.Laws.{tests}
 use Rattle.table.proofs.valid.keeps_t4.Statement.{statement}

@@ -1,4 +1,3 @@
-use Prim.Native.Nat.{_-_}
 use Rattle.lists.proofs.Laws.{tests}
 use Rattle.table.proofs.valid.keeps_t6.Statement.{statement}
 use Rattle.table.proofs.valid.keeps_t6.Tie as tie

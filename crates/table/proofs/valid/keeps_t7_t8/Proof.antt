@@ -1,6 +1,5 @@
 use Rattle.table.proofs.LineLaws.{rest-is}
 use Rattle.table.specs.Entry.{mk}
-use Prim.Native.Nat.{_-_}
 use borrow.Author.Needs.{needs}
 use Rattle.lists.proofs.Laws.{tests}
 use Rattle.table.proofs.valid.keeps_t7_t8.Statement.{statement}

@@ -3,7 +3,6 @@ use borrow.Author.Tests.{not-true, not-false}
 use Rattle.table.specs.States.{stepAt}
 use Rattle.table.specs.Entry.{mk}
 use mathlib.Core.Path.{sym, _∙_}
-use Prim.Native.Nat.{_-_}
 use borrow.Author.Needs.{needs}
 use Rattle.table.proofs.valid.line_ok.Statement.{statement}
 use Rattle.table.proofs.valid.line_ok.Tie as tie

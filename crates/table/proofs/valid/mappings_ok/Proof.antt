@@ -7,7 +7,6 @@ use Rattle.table.specs.Rules.{allOf}
 use Rattle.table.specs.States.{stepAt}
 use lib.Seq.{length-take-le}
 use mathlib.Core.Path.{sym, _∙_}
-use Prim.Native.Nat.{_-_}
 use native.Mathlib.Omega.{arith}
 use lib.ListN.{take}
 use borrow.Author.Needs.{needs}

@@ -2,7 +2,6 @@ use Rattle.table.proofs.ValidLaws.{valid-is, record-kept, states-long}
 use borrow.Author.Tests.{not-true, not-false}
 use lib.Seq.{length-take-le}
 use mathlib.Core.Path.{sym, _∙_}
-use Prim.Native.Nat.{_-_}
 use borrow.Author.Needs.{needs}
 use Rattle.table.proofs.valid.memory_valid.Statement.{statement}
 use Rattle.table.proofs.valid.memory_valid.Tie as tie

@@ -2,7 +2,6 @@ use Rattle.table.proofs.EntryLaws.{read-next-if, read-next-not}
 use borrow.Author.Tests.{not-true, not-false}
 use Rattle.table.specs.Entry.{mk}
 use mathlib.Core.Path.{sym, _∙_}
-use Prim.Native.Nat.{_-_}
 use borrow.Author.Needs.{needs}
 use Rattle.lists.proofs.Laws.{tests}
 use Rattle.table.proofs.valid.read_next.Statement.{statement}

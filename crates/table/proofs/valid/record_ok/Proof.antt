@@ -1,7 +1,6 @@
 use Rattle.table.specs.Valid.{recordOk}
 use borrow.Author.Tests.{not-true, not-false}
 use mathlib.Core.Path.{sym, _∙_}
-use Prim.Native.Nat.{_-_}
 use borrow.Author.Needs.{needs}
 use Rattle.lists.proofs.Laws.{tests}
 use Rattle.table.proofs.valid.record_ok.Statement.{statement}

@@ -1,8 +1,8 @@
 use mathlib.Core.Path.{sym, ap}
 use borrow.Author.Needs.{needs}
 use Rattle.table.specs.Numbers.{numberOf}
-use Rattle.cabi.proofs.refusal_number.Statement.{statement}
-use Rattle.cabi.proofs.refusal_number.Tie as tie
+use Rattle.table.proofs.load.refusal_number.Statement.{statement}
+use Rattle.table.proofs.load.refusal_number.Tie as tie
 
 enum-told : tie.Need-enum-told
 enum-told c = search needs

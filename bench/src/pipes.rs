@@ -1,0 +1,111 @@
+//! The two conversions behind one set of calls: compared, then timed.
+
+use crate::library::Lent;
+use crate::plain::{self, Plain};
+use crate::texts::{Texts, TEXT};
+use crate::timing::{figure, nothing, way};
+use std::cell::RefCell;
+
+/// Each call converts the whole input or panics, and says how many bytes it
+/// wrote.
+pub trait Converter {
+    fn name(&self) -> &str;
+    fn to_utf8(&self, input: &[u8], output: &mut [u8]) -> usize;
+    fn from_utf8(&self, input: &[u8], output: &mut [u8]) -> usize;
+}
+
+fn whole(input: &[u8], (number, read, written): (u32, usize, usize)) -> usize {
+    assert_eq!((number, read), (0, input.len()), "the whole input is converted");
+    written
+}
+
+impl Converter for Lent {
+    fn name(&self) -> &str {
+        "library"
+    }
+
+    fn to_utf8(&self, input: &[u8], output: &mut [u8]) -> usize {
+        whole(input, self.to_utf8(input, output))
+    }
+
+    fn from_utf8(&self, input: &[u8], output: &mut [u8]) -> usize {
+        whole(input, self.from_utf8(input, output))
+    }
+}
+
+impl Converter for Plain {
+    fn name(&self) -> &str {
+        self.search.name()
+    }
+
+    fn to_utf8(&self, input: &[u8], output: &mut [u8]) -> usize {
+        whole(input, self.to_utf8(input, output, true))
+    }
+
+    fn from_utf8(&self, input: &[u8], output: &mut [u8]) -> usize {
+        whole(input, self.from_utf8(input, output, false, true))
+    }
+}
+
+/// The plain converter with the plain test of record and memory before each
+/// call, as the library has to make it.
+pub struct Tested<'a>(pub &'a Plain, pub &'a Lent);
+
+pub fn tested(lent: &Lent) -> bool {
+    let m = &lent.memory;
+    plain::check(&lent.record, &m.states, &m.codes, &m.infos, &m.order)
+}
+
+impl Converter for Tested<'_> {
+    fn name(&self) -> &str {
+        "plain, sorted, tested"
+    }
+
+    fn to_utf8(&self, input: &[u8], output: &mut [u8]) -> usize {
+        assert!(tested(self.1), "the plain test of the memory");
+        Converter::to_utf8(self.0, input, output)
+    }
+
+    fn from_utf8(&self, input: &[u8], output: &mut [u8]) -> usize {
+        assert!(tested(self.1), "the plain test of the memory");
+        Converter::from_utf8(self.0, input, output)
+    }
+}
+
+type Call = fn(&dyn Converter, &[u8], &mut [u8]) -> usize;
+
+const CALLS: [(&str, Call); 2] = [("to UTF-8", |c, i, o| c.to_utf8(i, o)), ("from UTF-8", |c, i, o| c.from_utf8(i, o))];
+
+/// Compares the output of all converters byte by byte, then times them. The
+/// library is the first.
+pub fn both_ways(texts: &Texts, converters: &[&dyn Converter]) {
+    for ((name, call), pieces) in CALLS.into_iter().zip([&texts.codes, &texts.chars]) {
+        compare(name, call, pieces, converters);
+        let output = RefCell::new(space(pieces));
+        let ways = converters.iter().map(|c| {
+            let output = &output;
+            way(c.name(), move || {
+                let mut output = output.borrow_mut();
+                pieces.iter().map(|p| call(*c, p, &mut output)).sum::<usize>()
+            })
+        });
+        figure(&format!("{name}, {}", texts.cut), "as left", Some(TEXT), &mut nothing, ways.collect());
+    }
+}
+
+/// Space enough for every piece: a byte gives at most three.
+fn space(pieces: &[Vec<u8>]) -> Vec<u8> {
+    vec![0; 4 * pieces.iter().map(Vec::len).max().unwrap_or(0)]
+}
+
+fn compare(name: &str, call: Call, pieces: &[Vec<u8>], converters: &[&dyn Converter]) {
+    let (mut first, mut other) = (space(pieces), space(pieces));
+    for piece in pieces {
+        let n = call(converters[0], piece, &mut first);
+        for c in &converters[1..] {
+            other.fill(0);
+            let m = call(*c, piece, &mut other);
+            assert!(first[..n] == other[..m], "{name}: {} gives other bytes than the library", c.name());
+        }
+    }
+}

@@ -1,0 +1,117 @@
+//! Times several ways of doing one work. Their rounds take turns, and the time
+//! is the processor's time for this thread, so that other programs on the
+//! machine disturb little.
+
+use std::ffi::{c_int, c_long};
+use std::hint::black_box;
+use std::time::Instant;
+
+#[repr(C)]
+struct Timespec {
+    seconds: i64,
+    nanos: c_long,
+}
+
+extern "C" {
+    fn clock_gettime(clock: c_int, time: *mut Timespec) -> c_int;
+}
+
+const CLOCK_THREAD_CPUTIME_ID: c_int = 3;
+
+/// Seconds of the processor for this thread.
+fn spent() -> f64 {
+    let mut time = Timespec { seconds: 0, nanos: 0 };
+    // SAFETY: the struct has the layout of C's `struct timespec` on 64-bit Linux.
+    let number = unsafe { clock_gettime(CLOCK_THREAD_CPUTIME_ID, &mut time) };
+    assert_eq!(number, 0, "the clock is read");
+    time.seconds as f64 + time.nanos as f64 * 1e-9
+}
+
+pub const ROUNDS: usize = 15;
+
+/// A way of doing the work, under its name.
+pub struct Way<'a> {
+    name: &'a str,
+    once: Box<dyn FnMut() + 'a>,
+}
+
+pub fn way<'a, T>(name: &'a str, mut once: impl FnMut() -> T + 'a) -> Way<'a> {
+    Way { name, once: Box::new(move || drop(black_box(once()))) }
+}
+
+/// How often to run something so that a round takes some 40 ms.
+fn repeats(once: &mut dyn FnMut()) -> u32 {
+    let start = Instant::now();
+    once();
+    (0.040 / start.elapsed().as_secs_f64()).clamp(1.0, 100_000.0) as u32
+}
+
+fn round(n: u32, before: &mut dyn FnMut(), once: &mut dyn FnMut()) -> f64 {
+    let mut total = 0.0;
+    for _ in 0..n {
+        before();
+        let start = spent();
+        once();
+        total += spent() - start;
+    }
+    total / n as f64
+}
+
+/// The least time by the clock on the wall, for work in other processes too.
+pub fn least(once: &mut dyn FnMut()) -> f64 {
+    let mut best = f64::INFINITY;
+    for _ in 0..20 * ROUNDS {
+        let start = Instant::now();
+        once();
+        best = best.min(start.elapsed().as_secs_f64());
+    }
+    best
+}
+
+pub fn nothing() {}
+
+/// The times of each way, sorted. `before` runs before each call of the first
+/// way, outside the time taken.
+fn measured(before: &mut dyn FnMut(), ways: &mut [Way]) -> Vec<Vec<f64>> {
+    before();
+    let counts: Vec<u32> = ways.iter_mut().map(|w| repeats(&mut w.once)).collect();
+    let mut times = vec![Vec::new(); ways.len()];
+    for _ in 0..ROUNDS {
+        for (i, w) in ways.iter_mut().enumerate() {
+            let time = match i {
+                0 => round(counts[i], before, &mut w.once),
+                _ => round(counts[i], &mut nothing, &mut w.once),
+            };
+            times[i].push(time);
+        }
+    }
+    for t in &mut times {
+        t.sort_by(f64::total_cmp);
+    }
+    times
+}
+
+/// Prints a group of lines: the library, which comes first, and each other way
+/// with its ratios.
+pub fn figure(name: &str, buffers: &str, bytes: Option<usize>, before: &mut dyn FnMut(), mut ways: Vec<Way>) {
+    let times = measured(before, &mut ways);
+    println!("{name} [buffers {buffers}]");
+    let (median, least) = (|t: &[f64]| t[ROUNDS / 2], |t: &[f64]| t[0]);
+    let own = &times[0];
+    for (i, (w, t)) in ways.iter().zip(&times).enumerate() {
+        let speed = bytes.map_or(String::new(), |b| format!(" ({:6.1} MB/s)", b as f64 / median(t) / 1e6));
+        print!("    {:<22}{:10.1} us{speed}", w.name, median(t) * 1e6);
+        match i {
+            0 => println!("   least {:.1} us", least(t) * 1e6),
+            _ => println!("   ratio {}, of least times {}", ratio(median(own), median(t)), ratio(least(own), least(t))),
+        }
+    }
+}
+
+fn ratio(own: f64, other: f64) -> String {
+    let ratio = own / other;
+    match ratio < 0.1 {
+        true => format!("{ratio:.4}"),
+        false => format!("{ratio:.2}"),
+    }
+}

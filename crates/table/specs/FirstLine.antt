@@ -1,0 +1,109 @@
+-- Which line a refusal names and with which number, and when none is given. The theorems over these are `first-line-lowest`,
+-- `refused-exactly` and `accepted-quiet` of proofs/FirstLine.antt.
+use Prim.Native.Nat.{ℕ, _+_, _≤_}
+use mathlib.Core.Path.{_≡_}
+use mathlib.Core.Bool.{true, false}
+use mathlib.Core.List.{List, [], _∷_, _++_}
+use lib.ListN.{length}
+use Rattle.lists.specs.Order.{All, In}
+use Rattle.table.specs.Limits.{Limits}
+use Rattle.table.specs.Meaning.{Line, Table}
+use Rattle.table.specs.Header.{lineOf}
+use Rattle.table.specs.Mapping.{Form, noForm, reserved, blank, ending, mapping, mappedOf, lastOf}
+use Rattle.table.specs.Numbers.{Cond, cond, numberOf, keyConditions, charmapConditions, mappingConditions}
+use Rattle.table.specs.Load.{Reading, Step, went, stop, Judge, lineAs, stepOf, tableOf, start}
+use Rattle.table.specs.declared.header.Head.{Head}
+use Rattle.table.specs.declared.header.Line.{Line as HeaderLine}
+use Rattle.table.specs.declared.header.Line.the-variants as header
+use Rattle.table.specs.declared.load.Refusal.{Refusal}
+use Rattle.table.specs.declared.load.Refusal.the-variants as refusal
+use Rattle.table.specs.declared.load.Verdict.the-variants.{Fine}
+use Rattle.table.specs.declared.load.Phase.{Phase}
+use Rattle.table.specs.declared.load.Phase.the-variants.{Header, Mappings, Ended}
+
+-- none of these conditions holds
+abbrev pub NoneHolds : List Cond → Type 0
+NoneHolds cs = All (λ c. c .holds ≡ false) cs
+
+-- the condition of refusal x holds, and none that holds has a lower number
+pub record HoldsLowest (x : Refusal) (cs : List Cond) : Type 0 where
+  pub holds : In (cond x true) cs
+  pub least : All (λ c. c .holds ≡ true → numberOf x ≤ numberOf (c .refusal)) cs
+
+-- the conditions at a line before CHARMAP: 10 at a line of no form, none at a blank one
+abbrev pub headerConditions : Limits → Head → List (List ℕ) → HeaderLine → List Cond
+headerConditions lim h rows header.NoForm = cond refusal.NoForm true ∷ []
+headerConditions lim h rows header.Blank = []
+headerConditions lim h rows header.Charmap = charmapConditions h rows
+headerConditions lim h rows (header.Known k v q e) = keyConditions lim h k v
+
+-- at a line between CHARMAP and END CHARMAP: 10 at a line of no form, 14 at one that is reserved
+abbrev pub mappedConditions : Limits → Head → List (List ℕ) → List Line → Form → List Cond
+mappedConditions lim h rows ls noForm = cond refusal.NoForm true ∷ []
+mappedConditions lim h rows ls reserved = cond refusal.NotBuilt true ∷ []
+mappedConditions lim h rows ls blank = []
+mappedConditions lim h rows ls ending = []
+mappedConditions lim h rows ls (mapping u c d) = mappingConditions lim h rows ls (lineAs u c d)
+
+-- at a line behind END CHARMAP, where only blank lines may stand
+abbrev pub lastConditions : Form → List Cond
+lastConditions noForm = cond refusal.NoForm true ∷ []
+lastConditions reserved = cond refusal.NotBuilt true ∷ []
+lastConditions blank = []
+lastConditions ending = cond refusal.NoForm true ∷ []
+lastConditions (mapping u c d) = cond refusal.NoForm true ∷ []
+
+-- by the part of the text that the line stands in
+abbrev pub phaseConditions : Limits → Phase → Head → List (List ℕ) → List Line → List ℕ → List Cond
+phaseConditions lim Header h rows ls s = headerConditions lim h rows (lineOf s)
+phaseConditions lim Mappings h rows ls s = mappedConditions lim h rows ls (mappedOf s)
+phaseConditions lim Ended h rows ls s = lastConditions (lastOf s)
+
+-- the conditions at a line, given what was read before it
+abbrev pub conditionsAt : Limits → Reading → List ℕ → List Cond
+conditionsAt lim r s = phaseConditions lim (r .phase) (r .head) (r .rows) (r .lines) s
+
+-- to ask no condition: every line is fine
+abbrev pub unasked : Judge
+unasked cs = Fine
+
+-- what a step has read; a refused line leaves what was read before it
+abbrev pub readIn : Reading → Step → Reading
+readIn r (went q) = q
+readIn r (stop x) = r
+
+-- what is read behind a line, and behind several lines, with no condition asked
+abbrev pub behind : Limits → Reading → List ℕ → Reading
+behind lim r s = readIn r (stepOf unasked lim r s)
+
+unfoldable pub behindAll : Limits → Reading → List (List ℕ) → Reading
+behindAll lim r [] = r
+behindAll lim r (l ∷ ls) = behindAll lim (behind lim r l) ls
+
+-- no condition holds at any of these lines, each given what was read before it
+abbrev pub Quiet : Limits → Reading → List (List ℕ) → Type 0
+Quiet lim r [] = Unit {0}
+Quiet lim r (l ∷ ls) = NoneHolds (conditionsAt lim r l) × Quiet lim (behind lim r l) ls
+
+-- refusal x is named at line k, counting from 1: no condition holds at the lines before it, and at it x holds with the lowest number
+pub record FirstHolds (lim : Limits) (ls : List (List ℕ)) (x : Refusal) (k : ℕ) : Type 0 where
+  pub earlier : List (List ℕ)
+  pub line : List ℕ
+  pub later : List (List ℕ)
+  pub lines-are : ls ≡ earlier ++ line ∷ later
+  pub counted : k ≡ length earlier + 1
+  pub quiet : Quiet lim start earlier
+  pub named : HoldsLowest x (conditionsAt lim (behindAll lim start earlier) line)
+
+-- 27 at the line behind the last: no condition holds at any line, and END CHARMAP did not come
+pub record NeverEnds (lim : Limits) (ls : List (List ℕ)) (x : Refusal) (k : ℕ) : Type 0 where
+  pub number : x ≡ refusal.NoEnd
+  pub counted : k ≡ length ls + 1
+  pub quiet : Quiet lim start ls
+  pub unended : behindAll lim start ls .phase ≡ Ended → ⊥
+
+-- no condition holds at any line, and END CHARMAP came: the text means table t
+pub record AllQuiet (lim : Limits) (ls : List (List ℕ)) (t : Table) : Type 0 where
+  pub quiet : Quiet lim start ls
+  pub ended : behindAll lim start ls .phase ≡ Ended
+  pub table : t ≡ tableOf (behindAll lim start ls)
