@@ -7,13 +7,12 @@ use native.Mathlib.Omega.{arith}
 use borrow.Author.Tests.{le-leb, lt-leb, leb-true, leb-false, lt-ltb, le-ltb, ltb-true, ltb-false, eqb-true, eqb-false}
 use lib.Dec.{leb, ltb, eqb}
 use lib.ListN.{length, take, drop, length-append}
-use lib.Seq.{take-append-seam, length-take-le}
+use lib.Seq.{take-append-seam}
 use Rattle.lists.specs.Pick.{pick}
 use Rattle.lists.specs.Order.{lead}
 use Rattle.lists.proofs.Cases.{pick-case}
 use Rattle.lists.proofs.Cursors.{lead-on, lead-stop, lead-end}
 use Rattle.frames.specs.Stream.{onto, linesOf, Line, whole, tooLong, cut, cutLines, extend, Fed, feed, lastLine, feedAll, Step, ended, unended, inLine, stepOf, heldIn, partialOf, keptIn}
-use Rattle.frames.specs.declared.lines.Partial.{Partial}
 use Rattle.frames.proofs.Steps.{is-end, is-inside}
 
 -- a line that is not too long has at most cap bytes
@@ -184,10 +183,3 @@ kept-held memory (whole s) =
     let n = length-append s (drop (length s) memory) in
     simp (le-leb (length s) (length (s ++ drop (length s) memory)) (omega arith), take-append-seam s (drop (length s) memory))
 kept-held memory tooLong = refl
-
-pub held-within : (memory : List ℕ) (p : Partial) → Within (length memory) (heldIn memory p)
-unfolding heldIn
-held-within memory p =
-    pick-case (Within (length memory)) (p .long) tooLong _ (λ t. tt)
-    (λ t. pick-case (Within (length memory)) (leb (p .len) (length memory)) (whole (take (p .len) memory)) tooLong
-    (λ u. let l = leb-true (p .len) (length memory) u in omega (arith, length-take-le (p .len) memory l)) (λ u. tt))

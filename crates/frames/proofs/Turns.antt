@@ -9,6 +9,7 @@ use borrow.Author.Tests.{le-leb}
 use lib.ListN.{length, take, drop, take-append-drop, length-append, length-drop}
 use lib.Seq.{length-take-le, drop-drop, take-at, drop-at}
 use Rattle.lists.specs.Place.{placed}
+use Rattle.lists.proofs.Front.{front-counts}
 use Rattle.frames.specs.Lines.{putInto, roomAfter}
 use Rattle.frames.specs.Stream.{Line, whole, Step, ended, unended, stepOf, heldIn, partialOf, keptIn, takenAnswer, takenInto}
 use Rattle.frames.specs.Report.{Told, stoppedIn, toldAfter, toldOf, progressOf}
@@ -202,4 +203,4 @@ module _ (write : Line → List ℕ) (memory : List ℕ) (h : Line) (chunk : Lis
       let e : out ≡ text ++ drop (length text) old = a .2 ∙ put-front old text m in
       let n : length text ≤ length out = rw e (simp length-append (omega arith)) in
       let p : r .put ≡ length text = rw (a .0) refl in
-      (omega arith, sym (length-take-le (r .put) out (omega arith)))
+      front-counts (r .put) out out refl (omega arith)
