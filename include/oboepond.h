@@ -1,8 +1,9 @@
 /*
  * Oboepond: conversion between a code page and UTF-8, by a conversion table in lent memory.
  *
- * No function keeps anything between calls or takes memory of its own. Each is proved: for every
- * content of the slices it answers what is written here, ends, and touches no other memory.
+ * No function keeps anything between calls or takes memory but its stack: at most 2 KiB for load and
+ * check, 36 KiB for the two conversions, 3 KiB for the audit. Each is proved: for every content of the
+ * slices it answers what is written here, ends, and touches no other memory.
  * The caller sees to it that each pointer is not null, is aligned for its type and has the stated
  * number of elements behind it (a pointer of length 0 too is not null), and that no slice that is
  * written overlaps another.

@@ -1,19 +1,13 @@
 //! ICU with the very same table: `makeconv` makes its binary table of the `.ucm`
 //! text. ICU is opened at run time, so that the build does not want it.
 
+use crate::dynamic::{c_text, Folder, Opened};
 use crate::pipes::Converter;
-use std::ffi::{c_char, c_int, c_void, CStr, CString};
-use std::os::unix::ffi::OsStrExt;
-use std::path::{Path, PathBuf};
+use std::ffi::{c_char, c_int, c_void, CStr};
+use std::path::Path;
 use std::process::{Command, Stdio};
 use std::ptr::null_mut;
 
-extern "C" {
-    fn dlopen(file: *const c_char, flags: c_int) -> *mut c_void;
-    fn dlsym(library: *mut c_void, name: *const c_char) -> *mut c_void;
-}
-
-const RTLD_NOW: c_int = 2;
 /// The name of the table and of its files.
 const TABLE: &CStr = c"bench-sjis";
 
@@ -46,44 +40,31 @@ struct Calls {
     convert_ex: ConvertEx,
 }
 
-/// A call of type `T` of the opened library; the names end in the version.
-///
-/// SAFETY: `T` must be the type of that call.
-unsafe fn call<T>(library: *mut c_void, name: &str, version: u32) -> Option<T> {
-    let name = CString::new(format!("{name}_{version}")).ok()?;
-    let place = dlsym(library, name.as_ptr());
-    (!place.is_null()).then(|| std::mem::transmute_copy(&place))
-}
-
 impl Calls {
-    /// The newest ICU installed; the version is part of the library's file name.
+    /// The newest ICU installed; the version is part of all names.
     fn find() -> Option<Calls> {
-        (50..150).rev().find_map(Calls::of)
+        (50..150).rev().find_map(|version| Calls::of(version).ok())
     }
 
-    fn of(version: u32) -> Option<Calls> {
-        let file = CString::new(format!("libicuuc.so.{version}")).ok()?;
-        // SAFETY: the name ends in NUL, and the types are those of ICU's headers.
+    fn of(version: u32) -> Result<Calls, String> {
+        let library = Opened::open(format!("libicuuc.so.{version}"))?;
+        let named = |name: &str| format!("{name}_{version}");
+        // SAFETY: the types are those of ICU's headers.
         unsafe {
-            let library = dlopen(file.as_ptr(), RTLD_NOW);
-            if library.is_null() {
-                return None;
-            }
-            Some(Calls {
-                open: call(library, "ucnv_open", version)?,
-                open_package: call(library, "ucnv_openPackage", version)?,
-                close: call(library, "ucnv_close", version)?,
-                get_version: call(library, "u_getVersion", version)?,
-                convert_ex: call(library, "ucnv_convertEx", version)?,
+            Ok(Calls {
+                open: library.call(&named("ucnv_open"))?,
+                open_package: library.call(&named("ucnv_openPackage"))?,
+                close: library.call(&named("ucnv_close"))?,
+                get_version: library.call(&named("u_getVersion"))?,
+                convert_ex: library.call(&named("ucnv_convertEx"))?,
             })
         }
     }
 
     fn open_table(&self, folder: &Folder) -> Result<*mut c_void, String> {
-        let folder = CString::new(folder.0.as_os_str().as_bytes()).expect("a path has no NUL");
         let mut error = 0;
         // SAFETY: the names end in NUL.
-        let converter = unsafe { (self.open_package)(folder.as_ptr(), TABLE.as_ptr(), &mut error) };
+        let converter = unsafe { (self.open_package)(c_text(&folder.0).as_ptr(), TABLE.as_ptr(), &mut error) };
         opened(converter, error)
     }
 
@@ -99,23 +80,6 @@ fn opened(converter: *mut c_void, error: c_int) -> Result<*mut c_void, String> {
     match error <= 0 && !converter.is_null() {
         true => Ok(converter),
         false => Err(format!("a converter does not open: error {error}")),
-    }
-}
-
-/// A folder for the table's files, removed at the end.
-struct Folder(PathBuf);
-
-impl Folder {
-    fn make() -> Result<Folder, String> {
-        let path = std::env::temp_dir().join(format!("oboepond-bench-{}", std::process::id()));
-        std::fs::create_dir_all(&path).map_err(|e| format!("no temporary folder: {e}"))?;
-        Ok(Folder(path))
-    }
-}
-
-impl Drop for Folder {
-    fn drop(&mut self) {
-        let _ = std::fs::remove_dir_all(&self.0);
     }
 }
 

@@ -1,24 +1,38 @@
 //! The library over the lent memory.
 
 use crate::memory::Memory;
-use crate::sys;
+use crate::raw::{self, Calls};
+use crate::timing::{way, Way};
+use std::cell::RefCell;
+use std::hint::black_box;
+
+/// One build of the library under its name.
+#[derive(Clone, Copy)]
+pub struct Build {
+    pub name: &'static str,
+    pub calls: Calls,
+}
+
+/// The static library that is linked.
+pub const LINKED: Build = Build { name: "library", calls: raw::LINKED };
 
 /// The lent memory and the record.
 pub struct Lent {
+    pub build: Build,
     pub memory: Memory,
     pub record: [u32; 7],
 }
 
 impl Lent {
-    pub fn new() -> Lent {
+    pub fn new(build: Build) -> Lent {
         let (states, codes) = (vec![0; 4096], vec![0; 2048]);
         let memory = Memory { states, infos: codes.clone(), order: codes.clone(), codes };
-        Lent { memory, record: [0; 7] }
+        Lent { build, memory, record: [0; 7] }
     }
 
     /// A table that the library accepts.
-    pub fn with(text: &[u8]) -> Lent {
-        let mut lent = Lent::new();
+    pub fn with(build: Build, text: &[u8]) -> Lent {
+        let mut lent = Lent::new(build);
         assert_eq!(lent.load(text), 0, "the library accepts the table");
         assert_eq!(lent.check(), 0, "and its memory");
         lent
@@ -33,7 +47,7 @@ impl Lent {
 
     pub fn load(&mut self, text: &[u8]) -> u32 {
         let mut result = [0; 8];
-        let number = sys::load(text, &mut self.memory, &mut result);
+        let number = self.build.calls.load(text, &mut self.memory, &mut result);
         for (to, from) in self.record.iter_mut().zip(&result[1..]) {
             *to = *from as u32;
         }
@@ -41,19 +55,19 @@ impl Lent {
     }
 
     pub fn check(&self) -> u32 {
-        sys::check(&self.record, &self.memory)
+        self.build.calls.check(&self.record, &self.memory)
     }
 
     /// Number, bytes read, bytes written.
     pub fn to_utf8(&self, input: &[u8], output: &mut [u8]) -> (u32, usize, usize) {
         let mut result = [0; 2];
-        let number = sys::to_utf8(&self.record, &self.memory, input, output, 1, &mut result);
+        let number = self.build.calls.to_utf8(&self.record, &self.memory, input, output, 1, &mut result);
         (number, result[0] as usize, result[1] as usize)
     }
 
     pub fn from_utf8(&self, input: &[u8], output: &mut [u8]) -> (u32, usize, usize) {
         let mut result = [0; 2];
-        let number = sys::from_utf8(&self.record, &self.memory, input, output, 0, 1, &mut result);
+        let number = self.build.calls.from_utf8(&self.record, &self.memory, input, output, 0, 1, &mut result);
         (number, result[0] as usize, result[1] as usize)
     }
 
@@ -62,9 +76,14 @@ impl Lent {
     pub fn audit(&self, position: &mut (u32, u32), allowance: u64, entries: &mut [u64]) -> (usize, u64, bool) {
         let mut result = [0; 5];
         let (bits, len) = *position;
-        let number = sys::audit(&self.record, &self.memory, 0, bits, len, allowance, entries, &mut result);
+        let number = self.build.calls.audit(&self.record, &self.memory, 0, bits, len, allowance, entries, &mut result);
         assert_eq!(number, 0, "the audit goes on");
         *position = (result[1] as u32, result[2] as u32);
         (result[0] as usize, result[4], result[3] == 1)
     }
+}
+
+/// Loading the text again and again into the same memory.
+pub fn loading<'a>(target: &'a RefCell<Lent>, text: &'a [u8]) -> Way<'a> {
+    way(target.borrow().build.name, move || target.borrow_mut().load(black_box(text)))
 }

@@ -1,13 +1,16 @@
 //! Times the library beside a straightforward Rust converter over the same
 //! table in the same run, and beside ICU and iconv. Figures are ratios: time of
-//! the library divided by time of the other. With the argument `peers` only ICU
-//! and iconv have their turn.
+//! the library divided by time of the other. The argument `look-ups` asks for the
+//! look-ups alone, `peers` for ICU and iconv alone, and `before FOLDER` for
+//! another build of the library.
 //!
 //! Each figure is the median of several rounds; a second ratio is that of the
 //! least times, for a busy machine. The state of the buffers is printed with
 //! each figure: `cleared` means set to zero before each round, outside the time
 //! taken; `as left` means as the round before left them.
 
+mod before;
+mod dynamic;
 mod iconv;
 mod icu;
 mod library;
@@ -23,59 +26,69 @@ mod sys;
 mod texts;
 mod timing;
 
-use library::Lent;
-use pipes::{both_ways, tested, Tested};
+use library::{loading, Lent, LINKED};
+use pipes::{both_ways, own, tested, Tested};
 use plain::{Plain, Search};
 use std::cell::RefCell;
 use std::hint::black_box;
 use std::time::Instant;
-use texts::{mappings, shuffle, table_text, Texts, FRAME};
-use timing::{figure, nothing, way, ROUNDS};
+use texts::{load_texts, mappings, scattered, table_text, Mapping, Texts, BLENDS, FRAME, TEXT};
+use timing::{figure, nothing, way, Amount, ROUNDS};
 
 fn main() {
+    let arguments: Vec<String> = std::env::args().skip(1).collect();
+    let arguments: Vec<&str> = arguments.iter().map(|a| a.as_str()).collect();
     println!("median of {ROUNDS} rounds; ratio = time of the library / time of the other");
-    if std::env::args().nth(1).as_deref() != Some("peers") {
-        own_figures();
+    match arguments[..] {
+        [] => {
+            own_figures();
+            look_ups();
+            peers::run();
+        }
+        ["look-ups"] => look_ups(),
+        ["peers"] => peers::run(),
+        ["before", folder] => before::run(folder.as_ref()),
+        _ => {
+            println!("arguments: none, `look-ups`, `peers` or `before FOLDER`");
+            std::process::exit(2);
+        }
     }
-    peers::run();
 }
 
 fn own_figures() {
-    let mut all = mappings();
+    let all = mappings();
     let text = table_text(&all);
-    let frames = Texts::in_frames(&all);
-    let sorted = Plain::load(&text, Search::Sorted).expect("plain load");
-    let hashed = Plain::load(&text, Search::Hashed).expect("plain load");
-    let lent = Lent::with(&text);
+    let plains = Plain::all(&text);
+    let lent = Lent::with(LINKED, &text);
     println!(
         "table: {} mappings, {} rows, {} bytes of text; {} frames of {FRAME} bytes each way",
-        sorted.mappings,
-        sorted.rows.len(),
+        plains[0].mappings,
+        plains[0].rows.len(),
         text.len(),
-        frames.codes.len()
+        TEXT / FRAME
     );
-    loads("load, lines in order", &text);
-    shuffle(&mut all);
-    loads("load, lines shuffled", &table_text(&all));
+    for (name, text) in load_texts() {
+        loads(name, &text);
+    }
     test_behind_60(&lent);
-    both_ways(&frames, &[&lent, &sorted, &hashed, &Tested(&sorted, &lent)]);
-    audits(&lent, &sorted, &hashed);
+    conversions(&all, &lent, &plains);
+    audits(&lent, &plains);
     dead_ends();
     deep_walks();
 }
 
 fn loads(name: &str, text: &[u8]) {
     for (buffers, cleared) in [("as left", false), ("cleared", true)] {
-        let target = RefCell::new(Lent::new());
+        let target = RefCell::new(Lent::new(LINKED));
         let mut before = || {
             if cleared {
                 target.borrow_mut().clear()
             }
         };
         let plain = |search: Search| way(search.name(), move || Plain::load(black_box(text), search));
-        let library = way("library", || target.borrow_mut().load(black_box(text)));
-        let ways = vec![library, plain(Search::Sorted), plain(Search::Hashed)];
-        figure(name, buffers, Some(text.len()), &mut before, ways);
+        let mut ways = vec![loading(&target, text)];
+        ways.extend(Search::ALL.map(plain));
+        figure(name, buffers, Some(Amount::bytes(text.len())), &mut before, ways);
     }
 }
 
@@ -85,8 +98,32 @@ fn test_behind_60(lent: &Lent) {
     figure("test behind 60", "none written", None, &mut nothing, ways);
 }
 
-fn audits(lent: &Lent, sorted: &Plain, hashed: &Plain) {
-    same_audit(lent, sorted);
+fn conversions(all: &[Mapping], lent: &Lent, plains: &[Plain]) {
+    let tested = Tested(&plains[0], lent);
+    let mut converters = own(lent, plains);
+    converters.push(&tested);
+    for blend in BLENDS {
+        both_ways(&Texts::in_frames(all, blend), &converters);
+    }
+}
+
+/// Either direction with codes and code points that all are in the table, then
+/// with such as are not.
+fn look_ups() {
+    let (mapped, others) = scattered();
+    let text = table_text(&mapped);
+    let (lent, plains) = (Lent::with(LINKED, &text), Plain::all(&text));
+    println!("look-ups: the time includes cutting each character out of the input and writing what it gives");
+    println!("table for these: {} two-byte codes, {} are not in it", mapped.len(), others.len());
+    for (name, list) in [("all in the table", mapped), ("none in the table", others)] {
+        both_ways(&Texts::of_look_ups(name, &list), &own(&lent, &plains));
+    }
+}
+
+fn audits(lent: &Lent, plains: &[Plain]) {
+    for plain in plains {
+        same_audit(lent, plain);
+    }
     let list = RefCell::new(Vec::new());
     for (how, piece) in [("one call", u64::MAX), ("pieces of 256 codes", 256)] {
         let mut entries = vec![0; 20_000];
@@ -97,7 +134,7 @@ fn audits(lent: &Lent, sorted: &Plain, hashed: &Plain) {
             }
         });
         let mut ways = vec![library];
-        for plain in [sorted, hashed] {
+        for plain in plains {
             let list = &list;
             ways.push(way(plain.search.name(), move || plain.audit(false, &mut list.borrow_mut())));
         }
@@ -120,7 +157,7 @@ fn same_audit(lent: &Lent, plain: &Plain) {
 fn dead_ends() {
     let text = b"<code_set_name> \"dead\"\n<mb_cur_min> 1\n<mb_cur_max> 3\n<uconv_class> \"MBCS\"\n\
         <subchar> \\xFF\n<icu:state> 0-fe:1, ff\n<icu:state> 0-ff:2\n<icu:state>\nCHARMAP\nEND CHARMAP\n";
-    let lent = Lent::with(text);
+    let lent = Lent::with(LINKED, text);
     let plain = Plain::load(text, Search::Sorted).expect("plain load");
     let (mut entries, mut list) = (vec![0; 1], Vec::new());
     let ways = vec![
@@ -135,7 +172,7 @@ fn dead_ends() {
 fn deep_walks() {
     let head = "<code_set_name> \"deep\"\n<mb_cur_min> 1\n<mb_cur_max> 4\n<uconv_class> \"MBCS\"\n";
     let rows = "<subchar> \\xFF\n<icu:state> 0-fe:1, ff\n<icu:state> 0-ff:2\n<icu:state> 0-ff:3\n<icu:state>\n";
-    let mut lent = Lent::new();
+    let mut lent = Lent::new(LINKED);
     let dead = format!("{head}{rows}CHARMAP\nEND CHARMAP\n");
     assert_eq!(lent.load(dead.as_bytes()), 0, "the library accepts four rows of dead ends");
     let mut entries = vec![0u64; 1_000_000];

@@ -3,22 +3,21 @@
 
 use crate::iconv::Iconv;
 use crate::icu::Icu;
-use crate::library::Lent;
-use crate::pipes::{both_ways, Converter};
-use crate::plain::{Plain, Search};
-use crate::texts::{mappings, table_text, Texts};
+use crate::library::{Lent, LINKED};
+use crate::pipes::{both_ways, own};
+use crate::plain::Plain;
+use crate::texts::{mappings, table_text, Texts, BLENDS};
 use crate::timing::least;
 
 pub fn run() {
     let iconv = Iconv::open();
     let chosen = iconv.as_ref().map_or_else(mappings, Iconv::mappings);
     let text = table_text(&chosen);
-    let lent = Lent::with(&text);
-    let sorted = Plain::load(&text, Search::Sorted).expect("plain load");
-    let hashed = Plain::load(&text, Search::Hashed).expect("plain load");
+    let lent = Lent::with(LINKED, &text);
+    let plains = Plain::all(&text);
     let icu = Icu::with(&text);
 
-    let mut converters: Vec<&dyn Converter> = vec![&lent, &sorted, &hashed];
+    let mut converters = own(&lent, &plains);
     match &icu {
         Ok(icu) => {
             println!("{}", icu.version());
@@ -34,9 +33,10 @@ pub fn run() {
         None => println!("iconv: no SHIFT_JIS here"),
     }
     println!("table for these: {} mappings, {} bytes of text", chosen.len(), text.len());
-    let frames = Texts::in_frames(&chosen);
-    both_ways(&frames, &converters);
-    both_ways(&frames.in_one_piece(), &converters);
+    for blend in BLENDS {
+        both_ways(&Texts::in_frames(&chosen, blend), &converters);
+        both_ways(&Texts::in_one_piece(&chosen, blend), &converters);
+    }
     if let Ok(icu) = icu {
         loads(lent, &text, icu);
     }

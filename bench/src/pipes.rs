@@ -2,7 +2,7 @@
 
 use crate::library::Lent;
 use crate::plain::{self, Plain};
-use crate::texts::{Texts, TEXT};
+use crate::texts::Texts;
 use crate::timing::{figure, nothing, way};
 use std::cell::RefCell;
 
@@ -21,7 +21,7 @@ fn whole(input: &[u8], (number, read, written): (u32, usize, usize)) -> usize {
 
 impl Converter for Lent {
     fn name(&self) -> &str {
-        "library"
+        self.build.name
     }
 
     fn to_utf8(&self, input: &[u8], output: &mut [u8]) -> usize {
@@ -72,6 +72,12 @@ impl Converter for Tested<'_> {
     }
 }
 
+/// The library and the plain converters.
+pub fn own<'a>(lent: &'a Lent, plains: &'a [Plain]) -> Vec<&'a dyn Converter> {
+    let plains = plains.iter().map(|plain| plain as &dyn Converter);
+    std::iter::once(lent as &dyn Converter).chain(plains).collect()
+}
+
 type Call = fn(&dyn Converter, &[u8], &mut [u8]) -> usize;
 
 const CALLS: [(&str, Call); 2] = [("to UTF-8", |c, i, o| c.to_utf8(i, o)), ("from UTF-8", |c, i, o| c.from_utf8(i, o))];
@@ -89,7 +95,7 @@ pub fn both_ways(texts: &Texts, converters: &[&dyn Converter]) {
                 pieces.iter().map(|p| call(*c, p, &mut output)).sum::<usize>()
             })
         });
-        figure(&format!("{name}, {}", texts.cut), "as left", Some(TEXT), &mut nothing, ways.collect());
+        figure(&format!("{name}, {}", texts.name()), "as left", Some(texts.amount), &mut nothing, ways.collect());
     }
 }
 

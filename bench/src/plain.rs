@@ -9,20 +9,75 @@ pub const UNASSIGNED: u16 = 3;
 pub const LEAD: u16 = 16;
 
 /// How codes and code points are looked up.
-#[derive(Clone, Copy, PartialEq)]
+#[derive(Clone, Copy)]
 pub enum Search {
     /// Halving in sorted arrays.
     Sorted,
     Hashed,
+    /// A place for every code of up to two bytes and for every code point up to
+    /// U+FFFF; halving for the others.
+    Direct,
 }
 
 impl Search {
+    pub const ALL: [Search; 3] = [Search::Sorted, Search::Hashed, Search::Direct];
+
     pub fn name(self) -> &'static str {
         match self {
             Search::Sorted => "plain, sorted arrays",
             Search::Hashed => "plain, hash maps",
+            Search::Direct => "plain, direct arrays",
         }
     }
+}
+
+/// Code bits, length, indicator.
+type Written = (u32, u8, u8);
+
+/// What a search has beside the sorted arrays, for reading and for writing.
+enum Index {
+    Nothing,
+    Maps(HashMap<u32, u32>, HashMap<u32, Written>),
+    /// By the upper half of the code bits, the lower half being 0, and by the
+    /// code point.
+    Direct(Places<u32>, Places<Written>),
+}
+
+const PLACES: usize = 1 << 16;
+type Places<T> = Box<[T; PLACES]>;
+/// In the place of a code that no line reads.
+const NO_POINT: u32 = u32::MAX;
+/// In the place of a code point that no line writes: no code has length 0.
+const NO_CODE: Written = (0, 0, 0);
+
+impl Index {
+    fn of(search: Search, read: &[(u32, u32)], write: &[(u32, Written)]) -> Index {
+        match search {
+            Search::Sorted => Index::Nothing,
+            Search::Hashed => Index::Maps(read.iter().copied().collect(), write.iter().copied().collect()),
+            Search::Direct => {
+                let short = read.iter().filter(|e| e.0 as u16 == 0).map(|e| (e.0 >> 16, e.1));
+                Index::Direct(places(NO_POINT, short), places(NO_CODE, write.iter().copied()))
+            }
+        }
+    }
+}
+
+/// The values in the places of their keys; a key beyond the last place has none.
+fn places<T: Copy>(none: T, entries: impl Iterator<Item = (u32, T)>) -> Places<T> {
+    let mut places = vec![none; PLACES];
+    for (key, value) in entries {
+        if let Some(place) = places.get_mut(key as usize) {
+            *place = value;
+        }
+    }
+    places.try_into().unwrap_or_else(|_| unreachable!("it has that length"))
+}
+
+/// Halving in a sorted array.
+fn found<T: Copy>(sorted: &[(u32, T)], key: u32) -> Option<T> {
+    let i = sorted.binary_search_by_key(&key, |e| e.0).ok()?;
+    Some(sorted[i].1)
 }
 
 pub struct Plain {
@@ -33,16 +88,24 @@ pub struct Plain {
     subchar1: Option<u8>,
     /// Code bits to code point, for `|0` and `|3`; sorted.
     read: Vec<(u32, u32)>,
-    /// Code point to (code bits, length, indicator), for `|0`, `|1`, `|2`; sorted.
-    write: Vec<(u32, (u32, u8, u8))>,
-    read_map: HashMap<u32, u32>,
-    write_map: HashMap<u32, (u32, u8, u8)>,
+    /// Code point to code, for `|0`, `|1`, `|2`; sorted.
+    write: Vec<(u32, Written)>,
+    index: Index,
 }
 
 fn bits(code: &[u8]) -> u32 {
     let mut four = [0; 4];
     four[..code.len()].copy_from_slice(code);
     u32::from_be_bytes(four)
+}
+
+/// Copies a code; a short one without a call of `memcpy`.
+fn put(code: &[u8], place: &mut [u8]) {
+    match (code, place) {
+        ([a], [x]) => *x = *a,
+        ([a, b], [x, y]) => (*x, *y) = (*a, *b),
+        (code, place) => place.copy_from_slice(code),
+    }
 }
 
 fn code_bytes(text: &str) -> Option<Vec<u8>> {
@@ -80,6 +143,11 @@ fn row(text: &str) -> Option<[u16; 256]> {
 }
 
 impl Plain {
+    /// One for each search.
+    pub fn all(text: &[u8]) -> [Plain; 3] {
+        Search::ALL.map(|search| Plain::load(text, search).expect("plain load"))
+    }
+
     /// Reads a .ucm text, refuses what it does not understand and lines that
     /// meet, sorts for search.
     pub fn load(text: &[u8], search: Search) -> Option<Plain> {
@@ -92,8 +160,7 @@ impl Plain {
             subchar1: None,
             read: Vec::new(),
             write: Vec::new(),
-            read_map: HashMap::new(),
-            write_map: HashMap::new(),
+            index: Index::Nothing,
         };
         let mut body = false;
         for line in text.lines() {
@@ -139,10 +206,7 @@ impl Plain {
         if meet {
             return None;
         }
-        if search == Search::Hashed {
-            t.read_map = t.read.iter().copied().collect();
-            t.write_map = t.write.iter().copied().collect();
-        }
+        t.index = Index::of(search, &t.read, &t.write);
         Some(t)
     }
 
@@ -161,23 +225,19 @@ impl Plain {
 
     #[inline]
     fn reads(&self, code: u32) -> Option<u32> {
-        match self.search {
-            Search::Sorted => {
-                let i = self.read.binary_search_by_key(&code, |e| e.0).ok()?;
-                Some(self.read[i].1)
-            }
-            Search::Hashed => self.read_map.get(&code).copied(),
+        match &self.index {
+            Index::Maps(read, _) => read.get(&code).copied(),
+            Index::Direct(read, _) if code as u16 == 0 => Some(read[(code >> 16) as usize]).filter(|&p| p != NO_POINT),
+            _ => found(&self.read, code),
         }
     }
 
     #[inline]
-    fn writes(&self, cp: u32) -> Option<(u32, u8, u8)> {
-        match self.search {
-            Search::Sorted => {
-                let i = self.write.binary_search_by_key(&cp, |e| e.0).ok()?;
-                Some(self.write[i].1)
-            }
-            Search::Hashed => self.write_map.get(&cp).copied(),
+    fn writes(&self, cp: u32) -> Option<Written> {
+        match &self.index {
+            Index::Maps(_, write) => write.get(&cp).copied(),
+            Index::Direct(_, write) if cp < PLACES as u32 => Some(write[cp as usize]).filter(|w| w.1 > 0),
+            _ => found(&self.write, cp),
         }
     }
 
@@ -240,7 +300,7 @@ impl Plain {
                 _ => &self.subchar,
             };
             let Some(place) = output.get_mut(out..out + code.len()) else { return (50, at, out) };
-            place.copy_from_slice(code);
+            put(code, place);
             out += code.len();
         }
         (number, good.len(), out)

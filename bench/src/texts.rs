@@ -1,5 +1,7 @@
 //! Tables and texts.
 
+use crate::timing::Amount;
+
 pub const FRAME: usize = 4_096;
 pub const TEXT: usize = 1 << 20;
 /// The most mappings a table can have.
@@ -23,6 +25,19 @@ pub struct Mapping {
     pub code: Vec<u8>,
     pub kind: u8,
 }
+
+impl Mapping {
+    fn code(&self) -> Vec<u8> {
+        self.code.clone()
+    }
+
+    fn utf8(&self) -> Vec<u8> {
+        char::from_u32(self.cp).expect("a character").to_string().into_bytes()
+    }
+}
+
+/// The bytes of a character in the one or the other text.
+type Side = fn(&Mapping) -> Vec<u8>;
 
 /// The codes of Shift-JIS in order, single bytes first.
 pub fn codes() -> impl Iterator<Item = Vec<u8>> {
@@ -57,7 +72,7 @@ pub fn mappings() -> Vec<Mapping> {
     out
 }
 
-pub fn shuffle(mappings: &mut [Mapping]) {
+fn shuffle(mappings: &mut [Mapping]) {
     let mut rng = Rng(3);
     for i in (1..mappings.len()).rev() {
         mappings.swap(i, rng.below(i + 1));
@@ -78,52 +93,124 @@ pub fn table_text(mappings: &[Mapping]) -> Vec<u8> {
     text.into_bytes()
 }
 
-/// 1 MiB of text in each direction, in pieces that hold whole sequences.
+/// Two-byte codes picked by chance for a table, and all others: what is mapped
+/// and what is not lie among each other.
+pub fn scattered() -> (Vec<Mapping>, Vec<Mapping>) {
+    let doubles = codes().filter(|code| code.len() == 2);
+    let mut mapped: Vec<Mapping> = doubles.zip(0x3000..).map(|(code, cp)| Mapping { cp, code, kind: 0 }).collect();
+    shuffle(&mut mapped);
+    let others = mapped.split_off(MAPPINGS);
+    (mapped, others)
+}
+
+/// The text of the same table with its lines in two orders, under the names of
+/// the figures.
+pub fn load_texts() -> [(&'static str, Vec<u8>); 2] {
+    let ordered = mappings();
+    let mut shuffled = mappings();
+    shuffle(&mut shuffled);
+    [("load, lines in order", table_text(&ordered)), ("load, lines shuffled", table_text(&shuffled))]
+}
+
+/// The shares of ASCII, of other single bytes and of two-byte codes.
+#[derive(Clone, Copy)]
+pub struct Blend {
+    name: &'static str,
+    shares: [usize; 3],
+}
+
+pub const BLENDS: [Blend; 2] = [MIXED, MOSTLY_DOUBLE];
+/// Two characters in five ASCII, one in ten of another single byte.
+pub const MIXED: Blend = Blend { name: "mixed text", shares: [4, 1, 5] };
+/// Nineteen characters in twenty of two bytes, the others ASCII.
+const MOSTLY_DOUBLE: Blend = Blend { name: "mostly two-byte text", shares: [1, 0, 19] };
+/// Nothing but two-byte codes.
+const DOUBLE: [usize; 3] = [0, 0, 1];
+
+/// A text in each direction, in pieces that hold whole sequences.
 pub struct Texts {
-    pub cut: &'static str,
+    blend: &'static str,
+    cut: String,
+    /// Of either direction.
+    pub amount: Amount,
     pub codes: Vec<Vec<u8>>,
     pub chars: Vec<Vec<u8>>,
 }
 
 impl Texts {
-    pub fn in_frames(mappings: &[Mapping]) -> Texts {
-        let codes = frames(mappings, |m| m.code.clone());
-        let chars = frames(mappings, |m| char::from_u32(m.cp).expect("a character").to_string().into_bytes());
-        Texts { cut: "1 MiB in frames", codes, chars }
+    pub fn name(&self) -> String {
+        format!("{}, {}", self.blend, self.cut)
     }
 
-    pub fn in_one_piece(&self) -> Texts {
-        Texts { cut: "1 MiB in one call", codes: vec![self.codes.concat()], chars: vec![self.chars.concat()] }
+    fn made(blend: &'static str, cut: String, amount: Amount, text: impl Fn(Side) -> Vec<Vec<u8>>) -> Texts {
+        Texts { blend, cut, amount, codes: text(Mapping::code), chars: text(Mapping::utf8) }
+    }
+
+    pub fn in_pieces(mappings: &[Mapping], blend: Blend, size: usize, count: usize) -> Texts {
+        let cut = format!("{count} pieces of {size} bytes");
+        Texts::made(blend.name, cut, Amount::bytes(size * count), |side| {
+            pieces(characters(mappings, blend.shares), size, count, side)
+        })
+    }
+
+    /// 1 MiB.
+    pub fn in_frames(mappings: &[Mapping], blend: Blend) -> Texts {
+        let cut = "1 MiB in frames".into();
+        Texts { cut, ..Texts::in_pieces(mappings, blend, FRAME, TEXT / FRAME) }
+    }
+
+    /// 1 MiB.
+    pub fn in_one_piece(mappings: &[Mapping], blend: Blend) -> Texts {
+        let frames = Texts::in_frames(mappings, blend);
+        let cut = "1 MiB in one call".into();
+        Texts { cut, codes: vec![frames.codes.concat()], chars: vec![frames.chars.concat()], ..frames }
+    }
+
+    /// One piece of two-byte codes alone, 1 MiB of them: the same characters in
+    /// both directions.
+    pub fn of_look_ups(name: &'static str, mappings: &[Mapping]) -> Texts {
+        let count = TEXT / 2;
+        Texts::made(name, format!("{count} look-ups in one call"), Amount::look_ups(count), |side| {
+            vec![characters(mappings, DOUBLE).take(count).flat_map(side).collect()]
+        })
     }
 }
 
-/// Frames of exactly 4,096 bytes: two characters in five ASCII, one in ten of
-/// another single byte, the rest two-byte codes.
-fn frames(mappings: &[Mapping], bytes: impl Fn(&Mapping) -> Vec<u8>) -> Vec<Vec<u8>> {
-    let mut rng = Rng(7);
-    let both: Vec<&Mapping> = mappings.iter().filter(|m| m.kind == 0).collect();
+/// Characters of the list by chance, without end; none that is mapped one way
+/// only.
+fn characters(mappings: &[Mapping], shares: [usize; 3]) -> impl Iterator<Item = &Mapping> {
+    let both = || mappings.iter().filter(|m| m.kind == 0);
     let groups: [Vec<&Mapping>; 3] = [
-        both.iter().copied().filter(|m| (0x20..0x7f).contains(&m.cp)).collect(),
-        both.iter().copied().filter(|m| m.code.len() == 1 && m.cp > 0x7f).collect(),
-        both.iter().copied().filter(|m| m.code.len() == 2).collect(),
+        both().filter(|m| (0x20..0x7f).contains(&m.cp)).collect(),
+        both().filter(|m| m.code.len() == 1 && m.cp > 0x7f).collect(),
+        both().filter(|m| m.code.len() == 2).collect(),
     ];
-    let mut out = Vec::new();
-    while out.len() * FRAME < TEXT {
-        let mut frame = Vec::new();
-        while frame.len() < FRAME {
-            let group = match rng.below(10) {
-                0..=3 => 0,
-                4 => 1,
-                _ => 2,
-            };
-            let next = bytes(groups[group][rng.below(groups[group].len())]);
-            if frame.len() + next.len() <= FRAME {
-                frame.extend(next);
-            } else {
-                frame.push(b' ');
-            }
+    let mut rng = Rng(7);
+    std::iter::repeat_with(move || {
+        let (mut group, mut left) = (0, rng.below(shares.iter().sum()));
+        while left >= shares[group] {
+            left -= shares[group];
+            group += 1;
         }
-        out.push(frame);
-    }
-    out
+        groups[group][rng.below(groups[group].len())]
+    })
+}
+
+/// Pieces of exactly that size; where a character does not fit stands a space.
+fn pieces<'a>(
+    mut characters: impl Iterator<Item = &'a Mapping>,
+    size: usize,
+    count: usize,
+    side: Side,
+) -> Vec<Vec<u8>> {
+    let mut piece = || {
+        let mut piece = Vec::new();
+        while piece.len() < size {
+            let next = side(characters.next().expect("without end"));
+            let fits = piece.len() + next.len() <= size;
+            piece.extend(if fits { next } else { vec![b' '] });
+        }
+        piece
+    };
+    (0..count).map(|_| piece()).collect()
 }

@@ -70,6 +70,28 @@ pub fn least(once: &mut dyn FnMut()) -> f64 {
 
 pub fn nothing() {}
 
+/// How much a way does in one go, and what a million of that in a second is
+/// called.
+#[derive(Clone, Copy)]
+pub struct Amount {
+    count: usize,
+    unit: &'static str,
+}
+
+impl Amount {
+    pub fn bytes(count: usize) -> Amount {
+        Amount { count, unit: "MB/s" }
+    }
+
+    pub fn look_ups(count: usize) -> Amount {
+        Amount { count, unit: "million look-ups/s" }
+    }
+
+    fn speed(self, seconds: f64) -> String {
+        format!(" ({:6.1} {})", self.count as f64 / seconds / 1e6, self.unit)
+    }
+}
+
 /// The times of each way, sorted. `before` runs before each call of the first
 /// way, outside the time taken.
 fn measured(before: &mut dyn FnMut(), ways: &mut [Way]) -> Vec<Vec<f64>> {
@@ -93,13 +115,13 @@ fn measured(before: &mut dyn FnMut(), ways: &mut [Way]) -> Vec<Vec<f64>> {
 
 /// Prints a group of lines: the library, which comes first, and each other way
 /// with its ratios.
-pub fn figure(name: &str, buffers: &str, bytes: Option<usize>, before: &mut dyn FnMut(), mut ways: Vec<Way>) {
+pub fn figure(name: &str, buffers: &str, amount: Option<Amount>, before: &mut dyn FnMut(), mut ways: Vec<Way>) {
     let times = measured(before, &mut ways);
     println!("{name} [buffers {buffers}]");
     let (median, least) = (|t: &[f64]| t[ROUNDS / 2], |t: &[f64]| t[0]);
     let own = &times[0];
     for (i, (w, t)) in ways.iter().zip(&times).enumerate() {
-        let speed = bytes.map_or(String::new(), |b| format!(" ({:6.1} MB/s)", b as f64 / median(t) / 1e6));
+        let speed = amount.map_or(String::new(), |a| a.speed(median(t)));
         print!("    {:<22}{:10.1} us{speed}", w.name, median(t) * 1e6);
         match i {
             0 => println!("   least {:.1} us", least(t) * 1e6),

@@ -3,7 +3,7 @@
 
 use crate::cases::{equal, equal_memory, equal_slices, junk, old_bytes, old_entries, K};
 use crate::oracle::Memory;
-use crate::sys;
+use crate::raw::LINKED;
 
 const OLD: u64 = 0x1122_3344_5566_7788;
 
@@ -27,7 +27,7 @@ pub const CASES: &[AbiCase] = &[
 fn k() -> ([u32; 7], Memory) {
     let mut memory = junk(1);
     let mut result = [OLD; 8];
-    let number = sys::load(K.as_bytes(), &mut memory, &mut result);
+    let number = LINKED.load(K.as_bytes(), &mut memory, &mut result);
     assert_eq!(number, 0, "K is accepted");
     let mut record = [0; 7];
     for i in 0..7 {
@@ -41,7 +41,7 @@ fn load_short() -> Result<(), String> {
         for text in [K.as_bytes(), b"", b"x"] {
             let mut memory = junk(1);
             let mut result = vec![OLD; n];
-            equal("number", sys::load(text, &mut memory, &mut result), 70)?;
+            equal("number", LINKED.load(text, &mut memory, &mut result), 70)?;
             equal_slices("result", &result, &vec![OLD; n])?;
             equal_memory(&memory, &junk(1))?;
         }
@@ -57,7 +57,7 @@ fn load_long() -> Result<(), String> {
     ] {
         let mut memory = junk(1);
         let mut result = vec![OLD; 20];
-        sys::load(text, &mut memory, &mut result);
+        LINKED.load(text, &mut memory, &mut result);
         equal_slices("result", &result[..8], &first)?;
         equal_slices("result behind", &result[8..], &[OLD; 12])?;
     }
@@ -66,16 +66,16 @@ fn load_long() -> Result<(), String> {
 
 fn load_short_first() -> Result<(), String> {
     let mut memory = Memory::default();
-    equal("short slices", sys::load(K.as_bytes(), &mut memory, &mut [OLD; 7]), 70)?;
+    equal("short slices", LINKED.load(K.as_bytes(), &mut memory, &mut [OLD; 7]), 70)?;
     let mut memory = junk(1);
     let long = vec![b'#'; 1_048_577];
-    equal("long text", sys::load(&long, &mut memory, &mut [OLD; 7]), 70)
+    equal("long text", LINKED.load(&long, &mut memory, &mut [OLD; 7]), 70)
 }
 
 fn check_short() -> Result<(), String> {
     let (record, memory) = k();
     for n in 0..7 {
-        equal("number", sys::check(&record[..n], &memory), 70)?;
+        equal("number", LINKED.check(&record[..n], &memory), 70)?;
     }
     Ok(())
 }
@@ -83,9 +83,9 @@ fn check_short() -> Result<(), String> {
 fn check_long() -> Result<(), String> {
     let (record, memory) = k();
     let long = [&record[..], &[1, 2, 3]].concat();
-    equal("number", sys::check(&long, &memory), 0)?;
+    equal("number", LINKED.check(&long, &memory), 0)?;
     let long = [&[0; 7][..], &record[..]].concat();
-    equal("number", sys::check(&long, &memory), 60)
+    equal("number", LINKED.check(&long, &memory), 60)
 }
 
 fn to_short() -> Result<(), String> {
@@ -94,7 +94,7 @@ fn to_short() -> Result<(), String> {
         for m in 0..=2 {
             let mut output = old_bytes(9);
             let mut result = vec![OLD; m];
-            let got = sys::to_utf8(&record[..n], &memory, b"\x81\x7c3", &mut output, 1, &mut result);
+            let got = LINKED.to_utf8(&record[..n], &memory, b"\x81\x7c3", &mut output, 1, &mut result);
             if n < 7 || m < 2 {
                 equal("number", got, 70)?;
                 equal_slices("result", &result, &vec![OLD; m])?;
@@ -115,7 +115,7 @@ fn to_long() -> Result<(), String> {
     {
         let mut output = old_bytes(9);
         let mut result = vec![OLD; 6];
-        let got = sys::to_utf8(&long, &memory, b"\x3f", &mut output, substitute, &mut result);
+        let got = LINKED.to_utf8(&long, &memory, b"\x3f", &mut output, substitute, &mut result);
         equal("number", got, number)?;
         equal_slices("result", &result[..2], &first)?;
         equal_slices("result behind", &result[2..], &[OLD; 4])?;
@@ -129,7 +129,7 @@ fn from_short() -> Result<(), String> {
         for m in 0..=2 {
             let mut output = old_bytes(9);
             let mut result = vec![OLD; m];
-            let got = sys::from_utf8(&record[..n], &memory, b"33", &mut output, 1, 1, &mut result);
+            let got = LINKED.from_utf8(&record[..n], &memory, b"33", &mut output, 1, 1, &mut result);
             if n < 7 || m < 2 {
                 equal("number", got, 70)?;
                 equal_slices("result", &result, &vec![OLD; m])?;
@@ -151,7 +151,7 @@ fn from_long() -> Result<(), String> {
         for substitute in [0].into_iter().chain(on) {
             let mut output = old_bytes(9);
             let mut result = vec![OLD; 6];
-            let got = sys::from_utf8(&long, &memory, input, &mut output, fallback, substitute, &mut result);
+            let got = LINKED.from_utf8(&long, &memory, input, &mut output, fallback, substitute, &mut result);
             let (number, first, out): (u32, [u64; 2], &[u8]) = match (fallback, substitute) {
                 (0, 0) => (53, [0, 0], b""),
                 (0, _) => (0, [3, 1], b"\x3f"),
@@ -172,7 +172,7 @@ fn audit_short() -> Result<(), String> {
         for m in 0..=5 {
             let mut entries = old_entries(9);
             let mut result = vec![OLD; m];
-            let got = sys::audit(&record[..n], &memory, 0, 0, 0, 99, &mut entries, &mut result);
+            let got = LINKED.audit(&record[..n], &memory, 0, 0, 0, 99, &mut entries, &mut result);
             if n < 7 || m < 5 {
                 equal("number", got, 70)?;
                 equal_slices("result", &result, &vec![OLD; m])?;
@@ -191,7 +191,7 @@ fn audit_long() -> Result<(), String> {
         <subchar> \\x35\n<icu:state> 35\nCHARMAP\n<U0035> \\x35 |3\n<U0035> \\x35 |1\nEND CHARMAP\n";
     let mut memory = junk(1);
     let mut result = [OLD; 8];
-    equal("load", sys::load(text, &mut memory, &mut result), 0)?;
+    equal("load", LINKED.load(text, &mut memory, &mut result), 0)?;
     let mut record: Vec<u32> = result[1..].iter().map(|&v| v as u32).collect();
     record.extend([9; 5]);
     for (fallback, first) in [
@@ -202,7 +202,7 @@ fn audit_long() -> Result<(), String> {
     ] {
         let mut entries = old_entries(3);
         let mut result = vec![OLD; 9];
-        let got = sys::audit(&record, &memory, fallback, 0, 0, 9, &mut entries, &mut result);
+        let got = LINKED.audit(&record, &memory, fallback, 0, 0, 9, &mut entries, &mut result);
         equal("number", got, 0)?;
         equal_slices("result", &result[..5], &first)?;
         equal_slices("result behind", &result[5..], &[OLD; 4])?;
@@ -212,8 +212,8 @@ fn audit_long() -> Result<(), String> {
 
 fn short_before_60() -> Result<(), String> {
     let none = Memory::default();
-    equal("check", sys::check(&[0; 6], &none), 70)?;
-    equal("to UTF-8", sys::to_utf8(&[0; 7], &none, b"", &mut [], 0, &mut [OLD; 1]), 70)?;
-    equal("from UTF-8", sys::from_utf8(&[0; 6], &none, b"", &mut [], 0, 0, &mut [OLD; 2]), 70)?;
-    equal("audit", sys::audit(&[0; 7], &none, 0, 9, 9, 0, &mut [], &mut [OLD; 4]), 70)
+    equal("check", LINKED.check(&[0; 6], &none), 70)?;
+    equal("to UTF-8", LINKED.to_utf8(&[0; 7], &none, b"", &mut [], 0, &mut [OLD; 1]), 70)?;
+    equal("from UTF-8", LINKED.from_utf8(&[0; 6], &none, b"", &mut [], 0, 0, &mut [OLD; 2]), 70)?;
+    equal("audit", LINKED.audit(&[0; 7], &none, 0, 9, 9, 0, &mut [], &mut [OLD; 4]), 70)
 }

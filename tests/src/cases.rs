@@ -1568,6 +1568,26 @@ fn conversions(l: &mut List) {
     }
     l.to("no space, no input", K, "", 0, STRICT, 0, 0, "");
     l.from("no space, no input", K, "", 0, STRICT, 0, 0, "");
+    // Around 64 bytes, from which on the places of lines are kept at hand: the same answers, line by line.
+    for n in [62u64, 63, 64, 65, 66, 300] {
+        let before = |end: u64| "33".repeat((n - end) as usize);
+        for (code, number, out) in [("817C", 0, "E28892"), ("817D", 0, "E28892"), ("8180", 53, ""), ("812D", 52, "")] {
+            let read = if number == 0 { n } else { n - 2 };
+            let (input, out) = (before(2) + code, before(2) + out);
+            l.to(&format!("{n} bytes, the last two {code}"), K, &input, 999, STRICT, number, read, &out);
+        }
+        for (point, setting, number, out) in [
+            ("E28892", STRICT, 0, "817C"),
+            ("EFBC8D", STRICT, 53, ""),
+            ("EFBC8D", SUBST, 0, "3F"),
+            ("EFBC8D", FALL, 0, "817C"),
+            ("EFBC8E", SUBST, 0, "3F"),
+        ] {
+            let read = if number == 0 { n } else { n - 3 };
+            let (input, out) = (before(3) + point, before(3) + out);
+            l.from(&format!("{n} bytes, the last three {point}"), K, &input, 999, setting, number, read, &out);
+        }
+    }
     // At one place the earlier line wins: 51, 52, 53 before 50.
     l.to("51 before 50", K, "81", 0, SUBST, 51, 0, "");
     l.to("52 before 50", K, "FF", 0, SUBST, 52, 0, "");

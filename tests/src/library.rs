@@ -1,8 +1,8 @@
 //! The library as a test subject.
 
 use crate::oracle::{Audited, Loaded, Memory, Piped, Record};
+use crate::raw::LINKED;
 use crate::subject::Subject;
-use crate::sys;
 
 /// Each result slice is three places longer than needed; a change behind the
 /// needed places is a failure at once.
@@ -26,7 +26,7 @@ impl Subject for Library {
 
     fn load(&self, text: &[u8], memory: &mut Memory) -> Loaded {
         let mut result = [CANARY; 11];
-        let number = sys::load(text, memory, &mut result);
+        let number = LINKED.load(text, memory, &mut result);
         let r: [u64; 8] = checked(&result);
         let mut record = [0; 7];
         for (to, from) in record.iter_mut().zip(&r[1..]) {
@@ -36,12 +36,12 @@ impl Subject for Library {
     }
 
     fn check(&self, record: &Record, memory: &Memory) -> u32 {
-        sys::check(record, memory)
+        LINKED.check(record, memory)
     }
 
     fn to_utf8(&self, record: &Record, memory: &Memory, input: &[u8], output: &mut [u8], substitute: bool) -> Piped {
         let mut result = [CANARY; 5];
-        let number = sys::to_utf8(record, memory, input, output, substitute as u32, &mut result);
+        let number = LINKED.to_utf8(record, memory, input, output, substitute as u32, &mut result);
         let [read, written] = checked(&result);
         Piped { number, read, written }
     }
@@ -56,7 +56,7 @@ impl Subject for Library {
         substitute: bool,
     ) -> Piped {
         let mut result = [CANARY; 5];
-        let number = sys::from_utf8(record, memory, input, output, fallback as u32, substitute as u32, &mut result);
+        let number = LINKED.from_utf8(record, memory, input, output, fallback as u32, substitute as u32, &mut result);
         let [read, written] = checked(&result);
         Piped { number, read, written }
     }
@@ -72,7 +72,7 @@ impl Subject for Library {
         space: &mut [u64],
     ) -> Audited {
         let mut result = [CANARY; 8];
-        let number = sys::audit(record, memory, fallback as u32, bits, len, allowance, space, &mut result);
+        let number = LINKED.audit(record, memory, fallback as u32, bits, len, allowance, space, &mut result);
         let [entries, bits, len, finished, count] = checked(&result);
         assert!(finished <= 1, "finished is neither 0 nor 1: {finished}");
         Audited {

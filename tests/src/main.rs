@@ -23,6 +23,8 @@ mod random;
 #[cfg(not(feature = "oracle-only"))]
 mod raw;
 mod season;
+#[cfg(not(feature = "oracle-only"))]
+mod stack;
 mod subject;
 #[cfg(not(feature = "oracle-only"))]
 mod sys;
@@ -309,11 +311,11 @@ fn library_tests(seed: u64, count: u64, tally: &mut Tally) {
         let library = library::Library;
         hand_written(&library, tally);
         tally.here = 0;
-        for (name, run) in abi::CASES {
+        for (name, run) in abi::CASES.iter().chain(stack::CASES) {
             begin(*name);
             tally.count(library.name(), name, guarded(run));
         }
-        println!("[library] {} cases of the C calls", abi::CASES.len());
+        println!("[library] {} cases of the C calls", abi::CASES.len() + stack::CASES.len());
         random_groups(&library, true, seed, count, tally);
     }
     #[cfg(feature = "oracle-only")]

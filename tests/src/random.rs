@@ -338,7 +338,7 @@ pub const GROUPS: &[Group] = &[
     Group { name: "load: full tables", share: 3, on_oracle: true, make: load_full },
     Group { name: "load: a text for each number", share: 80, on_oracle: true, make: load_number },
     Group { name: "load: damaged texts", share: 90, on_oracle: false, make: load_damaged },
-    Group { name: "load: nearly right lines", share: 190, on_oracle: false, make: load_near },
+    Group { name: "load: nearly right lines", share: 180, on_oracle: false, make: load_near },
     Group { name: "load: several rules broken on a line", share: 60, on_oracle: false, make: load_several },
     Group { name: "load: hostile texts", share: 57, on_oracle: false, make: load_hostile },
     Group { name: "load: short and long slices", share: 20, on_oracle: false, make: load_slices },
@@ -349,6 +349,7 @@ pub const GROUPS: &[Group] = &[
     Group { name: "pipes: known texts both ways", share: 40, on_oracle: true, make: pipe_known },
     Group { name: "to UTF-8: valid, damaged, cut frames", share: 50, on_oracle: false, make: to_random },
     Group { name: "from UTF-8: valid, damaged, cut", share: 50, on_oracle: false, make: from_random },
+    Group { name: "pipes: long inputs over full tables", share: 10, on_oracle: false, make: pipe_full },
     Group { name: "pipes and audit over changed memory", share: 30, on_oracle: false, make: act_changed },
     Group { name: "audit: random calls", share: 30, on_oracle: false, make: audit_random },
     Group { name: "audit: pieces joined, one run, plain list", share: 20, on_oracle: true, make: audit_pieces },
@@ -515,8 +516,11 @@ fn pipe_known(rng: &mut Rng) -> Input {
     Input::Memory { base: gen::text_of(rng, &made), changes: Vec::new(), lengths: lengths(rng), act }
 }
 
-fn to_act(rng: &mut Rng, t: &Table) -> Act {
-    let items = *rng.pick(&[3, 8, 60]);
+fn some_items(rng: &mut Rng) -> usize {
+    *rng.pick(&[3, 8, 60])
+}
+
+fn to_act(rng: &mut Rng, t: &Table, items: usize) -> Act {
     let input = gen::random_frame(rng, t, items);
     let substitute = rng.one_in(2);
     let mut output = vec![0; 4 * input.len()];
@@ -525,8 +529,7 @@ fn to_act(rng: &mut Rng, t: &Table) -> Act {
     Act::To { input, spaces, substitute, known: None }
 }
 
-fn from_act(rng: &mut Rng, t: &Table) -> Act {
-    let items = *rng.pick(&[3, 8, 60]);
+fn from_act(rng: &mut Rng, t: &Table, items: usize) -> Act {
     let input = gen::random_utf8(rng, t, items);
     let (fallback, substitute) = (rng.one_in(2), rng.one_in(2));
     let mut output = vec![0; 4 * input.len()];
@@ -537,13 +540,26 @@ fn from_act(rng: &mut Rng, t: &Table) -> Act {
 
 fn to_random(rng: &mut Rng) -> Input {
     let made = a_table(rng);
-    let act = to_act(rng, &made.table);
+    let items = some_items(rng);
+    let act = to_act(rng, &made.table, items);
     Input::Memory { base: gen::text_of(rng, &made), changes: Vec::new(), lengths: lengths(rng), act }
 }
 
 fn from_random(rng: &mut Rng) -> Input {
     let made = a_table(rng);
-    let act = from_act(rng, &made.table);
+    let items = some_items(rng);
+    let act = from_act(rng, &made.table, items);
+    Input::Memory { base: gen::text_of(rng, &made), changes: Vec::new(), lengths: lengths(rng), act }
+}
+
+/// Long inputs over tables with many lines, where places of lines are kept at hand and several share one.
+fn pipe_full(rng: &mut Rng) -> Input {
+    let n = *rng.pick(&[500, 2047, 2048]);
+    let made = gen::full_table(rng, n);
+    let act = match rng.one_in(2) {
+        true => to_act(rng, &made.table, 2000),
+        false => from_act(rng, &made.table, 2000),
+    };
     Input::Memory { base: gen::text_of(rng, &made), changes: Vec::new(), lengths: lengths(rng), act }
 }
 
@@ -576,9 +592,10 @@ fn audit_random(rng: &mut Rng) -> Input {
 fn act_changed(rng: &mut Rng) -> Input {
     let made = a_table(rng);
     let changes = if rng.one_in(2) { vec![gen::one_change(rng, &made.table)] } else { broken(rng, &made) };
+    let items = some_items(rng);
     let mut act = match rng.below(3) {
-        0 => to_act(rng, &made.table),
-        1 => from_act(rng, &made.table),
+        0 => to_act(rng, &made.table, items),
+        1 => from_act(rng, &made.table, items),
         _ => audit_act(rng, &made.table),
     };
     if let Act::To { spaces, .. } | Act::From { spaces, .. } = &mut act {

@@ -1,26 +1,42 @@
-//! The library's C calls. A slice passes as a pointer and its length in
-//! elements.
+//! The library's C calls, of the linked build or of another one. A slice passes
+//! as a pointer and its length in elements.
 
-#[rustfmt::skip]
-extern "C" {
-    pub fn oboepond_load(
+/// Each call written once: the linked function and the place for a build's own.
+macro_rules! calls {
+    ($($call:ident = $name:ident($($arguments:tt)*);)*) => {
+        extern "C" {
+            $(fn $name($($arguments)*) -> u32;)*
+        }
+
+        /// The calls of one build of the library, and of nothing else.
+        #[derive(Clone, Copy)]
+        pub struct Calls {
+            $(pub $call: unsafe extern "C" fn($($arguments)*) -> u32,)*
+        }
+
+        pub const LINKED: Calls = Calls { $($call: $name,)* };
+    };
+}
+
+calls! {
+    load = oboepond_load(
         text: *const u8, text_len: usize,
         states: *mut u16, states_len: usize,
         codes: *mut u32, codes_len: usize,
         infos: *mut u32, infos_len: usize,
         order: *mut u32, order_len: usize,
         result: *mut u64, result_len: usize,
-    ) -> u32;
+    );
 
-    pub fn oboepond_check(
+    check = oboepond_check(
         record: *const u32, record_len: usize,
         states: *const u16, states_len: usize,
         codes: *const u32, codes_len: usize,
         infos: *const u32, infos_len: usize,
         order: *const u32, order_len: usize,
-    ) -> u32;
+    );
 
-    pub fn oboepond_to_utf8(
+    to_utf8 = oboepond_to_utf8(
         record: *const u32, record_len: usize,
         states: *const u16, states_len: usize,
         codes: *const u32, codes_len: usize,
@@ -30,9 +46,9 @@ extern "C" {
         output: *mut u8, output_len: usize,
         substitute: u32,
         result: *mut u64, result_len: usize,
-    ) -> u32;
+    );
 
-    pub fn oboepond_from_utf8(
+    from_utf8 = oboepond_from_utf8(
         record: *const u32, record_len: usize,
         states: *const u16, states_len: usize,
         codes: *const u32, codes_len: usize,
@@ -43,9 +59,9 @@ extern "C" {
         fallback: u32,
         substitute: u32,
         result: *mut u64, result_len: usize,
-    ) -> u32;
+    );
 
-    pub fn oboepond_audit(
+    audit = oboepond_audit(
         record: *const u32, record_len: usize,
         states: *const u16, states_len: usize,
         codes: *const u32, codes_len: usize,
@@ -57,5 +73,5 @@ extern "C" {
         allowance: u64,
         entries: *mut u64, entries_len: usize,
         result: *mut u64, result_len: usize,
-    ) -> u32;
+    );
 }

@@ -1,7 +1,7 @@
 -- A code's bytes into a number and out of it.
 use mathlib.Core.Path.{_≡_, refl, sym, _∙_}
 use Prim.Native.Nat.{ℕ, zero, suc, _+_, _-_, _*_, _/_, _%_, _≤_, _<_}
-use mathlib.Core.List.{List}
+use mathlib.Core.List.{List, [], _∷_}
 use mathlib.Core.Bool.{true, false}
 use native.Mathlib.Omega.{arith}
 use native.Mathlib.Numerals.{add-one}
@@ -13,6 +13,16 @@ use Rattle.lists.specs.Place.{fits, placed}
 use Rattle.lists.proofs.Laws.{drop-step}
 use Rattle.table.specs.Codes.{packed, unpacked}
 use Rattle.table.proofs.Packing.{packed-none, packed-more, length-unpacked, unpacked-none, unpacked-more}
+
+-- one byte and two, packed straight
+pub pack-one : (s : List ℕ) (n : ℕ) → n ≡ 1 → n ≤ length s → getD s 0 0 * 16777216 ≡ packed (take n s)
+pack-one [] n e h = absurd (omega arith)
+pack-one (b ∷ s) n e h = rw (e, packed-more b [], packed-none) (omega arith)
+
+pub pack-two : (s : List ℕ) (n : ℕ) → n ≡ 2 → n ≤ length s → getD s 0 0 * 16777216 + getD s 1 0 * 16777216 / 256 ≡ packed (take n s)
+pack-two [] n e h = absurd (omega arith)
+pack-two (a ∷ []) n e h = absurd (omega arith)
+pack-two (a ∷ b ∷ s) n e h = rw (e, packed-more a (b ∷ []), packed-more b [], packed-none) (omega arith)
 
 -- packing from the last byte to the first
 pub pack-start : (s : List ℕ) (n : ℕ) → n ≤ length s → 0 ≡ packed (drop n (take n s))
@@ -35,6 +45,15 @@ pack-end s n (suc i) h = absurd (omega arith)
 -- a turn: one more byte is stored
 pub put-one : (out : List ℕ) (i k v : ℕ) → 0 < k → sets out i (unpacked k v) ≡ sets (set out i (v / 16777216)) (i + 1) (unpacked (k - 1) (v % 16777216 * 256))
 put-one out i k v h = rw (unpacked-more k v h, add-one i)
+
+pub put-two : (out : List ℕ) (i k v : ℕ) → 1 < k → sets out i (unpacked k v)
+    ≡ sets (set (set out i (v / 16777216)) (i + 1) (v % 16777216 * 256 / 16777216)) (i + 2) (unpacked (k - 2) (v % 16777216 * 256 % 16777216 * 256))
+put-two out i k v h =
+    let l : i + 1 + 1 ≡ i + 2 = omega arith in
+    let m : k - 1 - 1 ≡ k - 2 = omega arith in
+    put-one out i k v (omega arith)
+    ∙ put-one (set out i (v / 16777216)) (i + 1) (k - 1) (v % 16777216 * 256) (omega arith)
+    ∙ rw (l, m)
 
 pub put-none : (out : List ℕ) (i k v : ℕ) → k ≤ 0 → sets out i (unpacked k v) ≡ out
 put-none out i k v h = rw (unpacked-none k v h)

@@ -9,7 +9,7 @@ use lib.Dec.{eqb}
 use lib.ListN.{length, take}
 use lib.Seq.{length-take-le}
 use Rattle.lists.specs.Pick.{pick}
-use Rattle.lists.specs.Order.{All, In, Rising}
+use Rattle.lists.specs.Order.{All, In}
 use Rattle.lists.proofs.Laws.{clash, both-left}
 use Rattle.lists.proofs.Order.{all-in}
 use Rattle.lists.proofs.AllParts.{all-take}
@@ -20,7 +20,7 @@ use Rattle.table.specs.States.{Rows, stepAt, cutFrom, cutOf}
 use Rattle.table.specs.Codes.{packed, unpacked, bytesOf, AllByte}
 use Rattle.table.specs.Meaning.{Line, Table, flat, stepsOf, same, isRead, isWritten, reader, writer}
 use Rattle.table.specs.Rules.{t8, t8Byte, Keeps}
-use Rattle.table.specs.Entry.{Entry, mk, rankIn, lineIn, less}
+use Rattle.table.specs.Entry.{Entry, mk, rankIn, lineIn}
 use Rattle.table.specs.Memory.{entries, sub1In, tableIn, Form, Proper}
 use Rattle.table.specs.Search.{readOf, writeOf}
 use Rattle.table.specs.Valid.{storeOk, valid}
@@ -32,7 +32,7 @@ use Rattle.table.specs.declared.valid.Record.{Record}
 use Rattle.table.proofs.Depth.{needed-agree}
 use Rattle.table.proofs.Cuts.{cut-complete, cut-agree, no-ends-zero}
 use Rattle.table.proofs.RowLaws.{filled-steps}
-use Rattle.table.proofs.StoreLaws.{ok-few, ok-codes, ok-infos, store-rising}
+use Rattle.table.proofs.StoreLaws.{ok-codes, ok-infos}
 use Rattle.table.specs.Progress.{GoodLine}
 use Rattle.table.proofs.LineLaws.{ok-rank, same-is, all-true, keeps-good, foundLine, reads-stored, writes-stored}
 use Rattle.table.proofs.Hits.{HitLine, hit-line, miss-line}
@@ -51,6 +51,13 @@ pub cut-within : (states s : List ℕ) (n kind : ℕ) → cutOf (stepAt states) 
 cut-within states s n kind e =
     let r = cut-complete (stepAt states) 4 0 0 s n kind (no-ends-zero states) e in
     (r .some, omega (arith, r .few), omega (arith, r .inside))
+
+-- the lines that a valid record counts lie within both slices
+pub lines-within : (rec : Record) (states codes infos order : List ℕ) → valid limits rec states codes infos order ≡ true
+    → (rec .mappings ≤ length codes) × (rec .mappings ≤ length infos)
+lines-within rec states codes infos order ok =
+    let st = tested rec states codes infos order ok .store-ok in
+    (ok-codes (rec .mappings) codes infos order st, ok-infos (rec .mappings) codes infos order st)
 
 -- T8: a `|2` line has the byte of subchar1
 t8-code : (sub1 : Option ℕ) (sub c : List ℕ) → t8Byte sub1 c ≡ true → sub1Bytes sub1 sub ≡ c
@@ -88,13 +95,13 @@ module _ (rec : Record) (states codes infos order : List ℕ) (ok : valid limits
     to-cut x e = ap (onCut t substitute s) (sym (cut-held s (all-bytes s bytes)) ∙ e)
 
     module _ (n kind v : ℕ) (e : cutOf (stepAt states) 0 s ≡ cut.Complete n kind) (p : v ≡ packed (take n s)) (f : Found)
-        (answer : Rising less es → rec .mappings ≤ 2048 → rec .mappings ≤ length codes → rec .mappings ≤ length infos → 1 ≤ n → n ≤ 4 → f ≡ readOf v (n - 1) es) where
+        (answer : (o : List ℕ) → storeOk 2048 (rec .mappings) codes infos o ≡ true → 1 ≤ n → n ≤ 4 → f ≡ readOf v (n - 1) es) where
       found-reader : f ≡ foundLine (reader (take n s) (t .lines))
       found-reader =
           let w = cut-within states s n kind e in
           let m : length (take n s) ≡ n = length-take-le n s (w .2) in
           let st = passed .store-ok in
-          answer (store-rising (rec .mappings) codes infos order st) (ok-few (rec .mappings) codes infos order st) (ok-codes (rec .mappings) codes infos order st) (ok-infos (rec .mappings) codes infos order st) (w .0) (w .1)
+          answer order st (w .0) (w .1)
           ∙ (λ i. readOf (p i) (sym m i - 1) es)
           ∙ reads-stored t (held .0) (held .1) rec states codes infos order (held .2) (take n s) (all-bytes (take n s) (all-take (λ b. b < 256) n s bytes)) (omega (arith, w .0))
 

@@ -1,4 +1,6 @@
 // The two conversions: from a table's bytes to UTF-8, and back.
+mod hints;
+
 use table::states::Code;
 use table::states::Cut;
 use table::store::Found;
@@ -10,8 +12,9 @@ ghost use mathlib.Core.Path.{_≡_};
 ghost use mathlib.Core.Bool.{true};
 ghost use mathlib.Core.List.{List};
 ghost use mathlib.Core.Option.{none};
-ghost use Prim.Native.Nat.{ℕ, _*_, _≤_};
+ghost use Prim.Native.Nat.{ℕ, _+_, _*_, _≤_};
 ghost use lib.ListN.{length, take};
+ghost use lib.Seq.{sets};
 ghost use Rattle.lists.specs.Pick.{pick};
 ghost use Rattle.lists.specs.Place.{fits, placed};
 ghost use Rattle.table.specs.Limits.{limits};
@@ -27,6 +30,9 @@ const TOP: u32 = 16777216;
 
 // A stored code point stands below this, and its rank above.
 const RANK: u32 = 2097152;
+
+// An input of fewer bytes is converted without hints: filling them in would cost more than they save.
+const SHORT: usize = 64;
 
 // How a conversion ends: all is read; the next output does not fit; the table is not valid; a sequence stops it.
 pub enum Halt {
@@ -73,6 +79,12 @@ fn pack(s: &[u8], n: usize) -> u32
     requires { ⌜ n ≤ length (now s) ⌝ }
     ensures { λ r. ⌜ r ≡ packed (take n (now (s .entry))) ⌝ }
 {
+    if n == 1 {
+        return on_top(s[0]);
+    }
+    if n == 2 {
+        return on_top(s[0]) + on_top(s[1]) / 256;
+    }
     let mut v: u32 = 0;
     let mut i = n;
     while 0 < i {
@@ -104,6 +116,7 @@ fn to_step(
     states: &[u16],
     codes: &[u32],
     infos: &[u32],
+    hints: &[u16],
     s: &[u8],
     substitute: bool,
 ) -> Sequence
@@ -116,11 +129,13 @@ fn to_step(
             table::states::Halt::Illegal(n) => Sequence::Stopped(Stop::Illegal(n)),
         },
         Cut::Complete(n, _) => {
+            let bits = pack(s, n);
+            let at = hints::hint_at(hints, hints::code_slot(bits));
             let code = Code {
-                bits: pack(s, n),
+                bits: bits,
                 len: n as u32,
             };
-            match table::store::find_code(codes, infos, rec.mappings, code) {
+            match table::store::find_code_near(codes, infos, rec.mappings, code, at) {
                 Found::Hit(_, info) => Sequence::Scalar(info % RANK, n),
                 Found::Nothing => unassigned(rec.subchar1, n, substitute),
             }
@@ -145,6 +160,7 @@ fn code_for(
     codes: &[u32],
     infos: &[u32],
     order: &[u32],
+    hints: &[u16],
     c: u32,
     n: usize,
     fallback: bool,
@@ -155,7 +171,8 @@ fn code_for(
         (writes (tableIn rec states (now (codes .entry)) (now (infos .entry))) fallback c)) ⌝ }
 {
     let sub = rec.subchar;
-    match table::store::find_point(codes, infos, order, rec.mappings, c) {
+    let at = hints::hint_at(hints, hints::point_slot(c));
+    match table::store::find_point_near(codes, infos, order, rec.mappings, c, at) {
         Found::Nothing => substitute_code(sub.bits, sub.len, n, substitute),
         Found::Hit(bits, info) => {
             let len = info / TOP + 1;
@@ -180,6 +197,7 @@ fn from_step(
     codes: &[u32],
     infos: &[u32],
     order: &[u32],
+    hints: &[u16],
     s: &[u8],
     fallback: bool,
     substitute: bool,
@@ -189,7 +207,33 @@ fn from_step(
 {
     match unicode::utf8::decode(s) {
         Sequence::Stopped(stop) => Sent::Stopped(stop),
-        Sequence::Scalar(c, n) => code_for(rec, codes, infos, order, c, n, fallback, substitute),
+        Sequence::Scalar(c, n) => code_for(
+            rec,
+            codes,
+            infos,
+            order,
+            hints,
+            c,
+            n,
+            fallback,
+            substitute,
+        ),
+    }
+}
+
+// The `n` bytes on top of a number, put into `out` from `at` on.
+fn put_bytes(bits: u32, n: usize, out: &mut [u8], at: usize)
+    requires { ⌜ at + n ≤ length (now out) ⌝ }
+    ensures { λ _. ⌜ now (out .exit) ≡ sets (now (out .entry)) at (unpacked n bits) ⌝ }
+{
+    let mut k = n;
+    let mut i = at;
+    let mut v = bits;
+    while 0 < k {
+        out[i] = (v / TOP) as u8;
+        v = v % TOP * 256;
+        k -= 1;
+        i += 1;
     }
 }
 
@@ -205,15 +249,19 @@ fn put_code(bits: u32, len: u32, out: &mut [u8], at: usize) -> bool
     if out.len() - n < at {
         return false;
     }
-    let mut k = n;
-    let mut i = at;
-    let mut v = bits;
-    while 0 < k {
-        out[i] = (v / TOP) as u8;
-        v = v % TOP * 256;
-        k -= 1;
-        i += 1;
+    if n == 0 {
+        return true;
     }
+    out[at] = (bits / TOP) as u8;
+    if n == 1 {
+        return true;
+    }
+    let rest = bits % TOP * 256;
+    out[at + 1] = (rest / TOP) as u8;
+    if n == 2 {
+        return true;
+    }
+    put_bytes(rest % TOP * 256, n - 2, out, at + 2);
     true
 }
 
@@ -224,6 +272,7 @@ fn to_run(
     codes: &[u32],
     infos: &[u32],
     order: &[u32],
+    hints: &[u16],
     input: &[u8],
     out: &mut [u8],
     substitute: bool,
@@ -235,7 +284,7 @@ fn to_run(
     let mut at = 0;
     let mut w = 0;
     while at < input.len() {
-        let sequence = to_step(rec, states, codes, infos, &input[at..], substitute);
+        let sequence = to_step(rec, states, codes, infos, hints, &input[at..], substitute);
         match sequence {
             Sequence::Stopped(stop) => {
                 return Done {
@@ -277,6 +326,51 @@ fn to_run(
     }
 }
 
+// The same, with hints where the input is long enough to repay filling them in.
+fn to_hinted(
+    rec: Record,
+    states: &[u16],
+    codes: &[u32],
+    infos: &[u32],
+    order: &[u32],
+    input: &[u8],
+    out: &mut [u8],
+    substitute: bool,
+) -> Done
+    requires { ⌜ valid limits rec (now states) (now codes) (now infos) (now order) ≡ true ⌝ }
+    ensures { λ r. ⌜ (r ≡ doneOf (toRun utf8 (tableIn rec (now (states .entry)) (now (codes .entry)) (now (infos .entry))) substitute (now (input .entry)) (length (now (out .entry)))))
+        × (now (out .exit) ≡ putOut (toRun utf8 (tableIn rec (now (states .entry)) (now (codes .entry)) (now (infos .entry))) substitute (now (input .entry)) (length (now (out .entry)))) (now (out .entry))) ⌝ }
+{
+    if input.len() < SHORT {
+        let none = [0u16; 1];
+        return to_run(
+            rec,
+            states,
+            codes,
+            infos,
+            order,
+            &none[..0],
+            input,
+            out,
+            substitute,
+        );
+    }
+    let n = rec.mappings as usize;
+    let mut filled = [0u16; hints::SLOTS];
+    hints::fill_codes(&codes[..n], &mut filled);
+    to_run(
+        rec,
+        states,
+        codes,
+        infos,
+        order,
+        &filled,
+        input,
+        out,
+        substitute,
+    )
+}
+
 // The conversion of UTF-8 to a valid table's bytes.
 fn from_run(
     rec: Record,
@@ -284,6 +378,7 @@ fn from_run(
     codes: &[u32],
     infos: &[u32],
     order: &[u32],
+    hints: &[u16],
     input: &[u8],
     out: &mut [u8],
     fallback: bool,
@@ -296,7 +391,16 @@ fn from_run(
     let mut at = 0;
     let mut w = 0;
     while at < input.len() {
-        let sent = from_step(rec, codes, infos, order, &input[at..], fallback, substitute);
+        let sent = from_step(
+            rec,
+            codes,
+            infos,
+            order,
+            hints,
+            &input[at..],
+            fallback,
+            substitute,
+        );
         match sent {
             Sent::Stopped(stop) => {
                 return Done {
@@ -325,6 +429,54 @@ fn from_run(
     }
 }
 
+// The same, with hints where the input is long enough to repay filling them in.
+fn from_hinted(
+    rec: Record,
+    states: &[u16],
+    codes: &[u32],
+    infos: &[u32],
+    order: &[u32],
+    input: &[u8],
+    out: &mut [u8],
+    fallback: bool,
+    substitute: bool,
+) -> Done
+    requires { ⌜ valid limits rec (now states) (now codes) (now infos) (now order) ≡ true ⌝ }
+    ensures { λ r. ⌜ (r ≡ doneOf (fromRun utf8 (tableIn rec (now (states .entry)) (now (codes .entry)) (now (infos .entry))) fallback substitute (now (input .entry)) (length (now (out .entry)))))
+        × (now (out .exit) ≡ putOut (fromRun utf8 (tableIn rec (now (states .entry)) (now (codes .entry)) (now (infos .entry))) fallback substitute (now (input .entry)) (length (now (out .entry)))) (now (out .entry))) ⌝ }
+{
+    if input.len() < SHORT {
+        let none = [0u16; 1];
+        return from_run(
+            rec,
+            states,
+            codes,
+            infos,
+            order,
+            &none[..0],
+            input,
+            out,
+            fallback,
+            substitute,
+        );
+    }
+    let n = rec.mappings as usize;
+    let mut filled = [0u16; hints::SLOTS];
+    hints::fill_points(&infos[..n], &mut filled);
+    from_run(
+        rec,
+        states,
+        codes,
+        infos,
+        order,
+        &filled,
+        input,
+        out,
+        fallback,
+        substitute,
+    )
+}
+
 // From a table's bytes to UTF-8: the test behind number 60 first, then sequence by sequence.
 pub fn to_utf8(
     rec: Record,
@@ -346,7 +498,7 @@ pub fn to_utf8(
             written: 0,
         };
     }
-    to_run(rec, states, codes, infos, order, input, out, substitute)
+    to_hinted(rec, states, codes, infos, order, input, out, substitute)
 }
 
 // From UTF-8 to a table's bytes: the test behind number 60 first, then sequence by sequence.
@@ -371,7 +523,7 @@ pub fn from_utf8(
             written: 0,
         };
     }
-    from_run(
+    from_hinted(
         rec,
         states,
         codes,

@@ -1,16 +1,16 @@
 -- The two orders of stored entries are strict and total; what neighbours are tested for is transitive.
-use mathlib.Core.Path.{_≡_, refl, sym, ap, subst}
+use mathlib.Core.Path.{_≡_, refl, sym, ap, subst, _∙_}
 use mathlib.Core.Bool.{Bool, true, false}
 use mathlib.Core.Logic.{_⊎_, inl, inr}
 use Prim.Native.Nat.{ℕ, _+_, _*_, _<_, _≤_}
 use native.Mathlib.Omega.{arith}
 use lib.Dec.{ltb, leb, eqb}
-use borrow.Author.Tests.{eqb-true, eq-eqb, leb-true, le-leb}
+use borrow.Author.Tests.{eqb-true, eq-eqb, ne-eqb, leb-true, le-leb}
 use Rattle.lists.specs.Pick.{pick}
 use Rattle.lists.specs.Order.{byKey, Comparable}
 use Rattle.lists.proofs.Choice.{pick-false}
 use Rattle.lists.proofs.Laws.{clash, not-yes, both-left, both-right}
-use Rattle.lists.proofs.Order.{by-cases, by-irrefl, by-trans, by-apart}
+use Rattle.lists.proofs.Order.{by-less, by-cases, by-irrefl, by-trans, by-apart}
 use Rattle.table.specs.Entry.{Entry, bitsOf, infoOf, mk, pointIn, rankIn, extraIn, writesEntry, keyIn, keyOf, never, less, pointLess, readClash, writeClash, readNext, writeNext}
 
 pub less-irrefl : (a : Entry) → less a a ≡ false
@@ -33,6 +33,10 @@ less-cases a b p = go (by-cases bitsOf (byKey infoOf never) a b p)
     go : (a .bits < b .bits) ⊎ ((a .bits ≡ b .bits) × (byKey infoOf never a b ≡ true)) → (a .bits < b .bits) ⊎ ((a .bits ≡ b .bits) × (a .info < b .info))
     go (inl h) = inl h
     go (inr h) = last (h .0) (by-cases infoOf never a b (h .1))
+
+pub less-bits : (a b : Entry) → a .bits < b .bits → less a b ≡ true
+unfolding less
+less-bits a b h = by-less bitsOf (byKey infoOf never) a b h
 
 pub less-apart : (a b : Entry) → (a ≡ b → ⊥) → Comparable less a b
 unfolding less
@@ -224,7 +228,7 @@ deny-four true true false s = refl
 deny-four true false r s = refl
 deny-four false q r s = refl
 
-pub read-next-if : (a b : Entry) → less a b ≡ true
+read-next-if : (a b : Entry) → less a b ≡ true
     → readNext a b ≡ pick (eqb (a .bits) (b .bits)) (pick (eqb (extraIn (a .info)) (extraIn (b .info))) (pick (leb (rankIn (a .info)) 1) (pick (leb (rankIn (b .info)) 1) false true) true) true) true
 unfolding readNext readClash
 read-next-if a b h = rw h (deny-four (eqb (a .bits) (b .bits)) (eqb (extraIn (a .info)) (extraIn (b .info))) (leb (rankIn (a .info)) 1) (leb (rankIn (b .info)) 1))
@@ -247,3 +251,26 @@ write-next-if a b h = rw h (deny-three (eqb (pointIn (a .info)) (pointIn (b .inf
 pub write-next-not : (a b : Entry) → pointLess a b ≡ false → writeNext a b ≡ false
 unfolding writeNext
 write-next-not a b h = rw h
+
+-- neighbours of different codes, and those with the same
+pub read-next-less : (a b : Entry) → a .bits < b .bits → readNext a b ≡ true
+read-next-less a b h = read-next-if a b (less-bits a b h) ∙ rw (ne-eqb (a .bits) (b .bits) (λ e. omega arith))
+
+pub read-next-same : (a b : Entry) → b .bits ≤ a .bits → less a b ≡ true
+    → readNext a b ≡ pick (eqb (extraIn (a .info)) (extraIn (b .info))) (pick (leb (rankIn (a .info)) 1) (pick (leb (rankIn (b .info)) 1) false true) true) true
+read-next-same a b h p = read-next-if a b p ∙ rw (eq-eqb (a .bits) (b .bits) (go (less-cases a b p)))
+  where
+    go : (a .bits < b .bits) ⊎ ((a .bits ≡ b .bits) × (a .info < b .info)) → a .bits ≡ b .bits
+    go (inl q) = absurd (omega arith)
+    go (inr q) = q .0
+
+-- a lower key decides alone: two lines that are written for one code point have one key
+pub key-next : (a b : Entry) → keyOf a < keyOf b → writeNext a b ≡ true
+unfolding writeNext pointLess
+key-next a b h = go (writeClash a b) refl
+  where
+    go : (t : Bool) → writeClash a b ≡ t → pick (byKey keyOf less a b) (pick (writeClash a b) false true) false ≡ true
+    go true r =
+        let w = clash-write a b r in
+        absurd (omega (arith, h, key-writes a (w .left-writes), key-writes b (w .right-writes), w .same-point))
+    go false r = rw (by-less keyOf less a b h, r)

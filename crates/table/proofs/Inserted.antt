@@ -74,11 +74,6 @@ module _ (at k : ℕ) (l : List ℕ) (h : k < length l) where
       ∙ set-at (map (bump at) (take k l)) (getD l k 0) (drop (k + 1) l) v k front
       ∙ ap (λ (x : ℕ). map (bump at) (take k l) ++ x ∷ drop (k + 1) l) q ∙ bumped-more
 
-  pub bumped-keep : (m : List ℕ) → m ≡ bumped at k l → getD l k 0 ≡ bump at (getD l k 0) → m ≡ bumped at (k + 1) l
-  bumped-keep m e q =
-      e ∙ ap (λ (x : List ℕ). map (bump at) (take k l) ++ x) (drop-step l k h)
-      ∙ ap (λ (x : ℕ). map (bump at) (take k l) ++ x ∷ drop (k + 1) l) q ∙ bumped-more
-
 -- a list with x put in at a place
 abbrev pub put : {A : Type 0} → ℕ → A → List A → List A
 put r x l = take r l ++ x ∷ drop r l

@@ -26,6 +26,7 @@ use Rattle.table.specs.Entry.{Entry, mk, pointIn, rankIn, extraIn, rankO
 use Rattle.table.specs.Memory.{entries, sorted, sub1In, recordOf, Form, Proper, ProperLine}
 use Rattle.table.specs.Search.{readsCode, writesPoint, foundOf, readOf, writeOf, readTaken, writeTaken}
 use Rattle.table.specs.Progress.{GoodLine}
+use Rattle.table.specs.Common.{CommonCode}
 use Rattle.table.specs.Valid.{lineOk, Kept}
 use Rattle.table.specs.declared.valid.Record.{Record}
 use Rattle.table.specs.declared.store.Found.{Found}
@@ -153,6 +154,42 @@ module _ (step : Rows) (rec : Record) (e : Entry) where
   line-formed h =
       ap (λ (t : Bool). pick t (pick (t5 step (rec .min) (rec .max) (lineIn e)) (pick (t6 (lineIn e)) (pick (t7 (lineIn e)) (t8 (sub1In (rec .subchar1)) (lineIn e)) false) false) false) false) h
       ∙ last-first (t5 step (rec .min) (rec .max) (lineIn e)) (t6 (lineIn e)) (pick (t7 (lineIn e)) (t8 (sub1In (rec .subchar1)) (lineIn e)) false)
+
+-- the first test of a line: what passes keeps the rules
+first-kept : (rank extra b : ℕ) → (b ≡ 0 → extra + 1 ≡ 1) → pick (eqb rank 1) true (pick (eqb extra 0) true (pick (eqb b 0) false true)) ≡ true
+first-kept rank extra b h = go (eqb rank 1) (eqb extra 0) refl (eqb b 0) refl
+  where
+    go : (x y : Bool) → eqb extra 0 ≡ y → (z : Bool) → eqb b 0 ≡ z → pick x true (pick y true (pick z false true)) ≡ true
+    go true y p z q = refl
+    go false true p z q = refl
+    go false false p true q = absurd (eqb-false extra 0 p (omega (arith, h (eqb-true b 0 q))))
+    go false false p false q = refl
+
+module _ (step : Rows) (rec : Record) (e : Entry) (common : CommonCode step (rec .min) (rec .max) (extraIn (e .info) + 1) (e .bits)) (written : rankIn (e .info) ≤ 2) where
+  common-formed : entryOk e ≡ true
+  unfolding entryOk
+  common-formed = rw (le-leb (rankIn (e .info)) 3 (omega (arith, written)), common .its-form)
+
+  no-two : rankIn (e .info) ≡ 3 → ⊥
+  no-two q = omega (arith, written)
+
+  common-t5 : pointIn (e .info) ≤ 0xffff → t5 step (rec .min) (rec .max) (lineIn e) ≡ true
+  common-t5 p =
+      t5-other e step (rec .min) (rec .max) (ok-rank e common-formed) no-two
+      ∙ rw (le-leb (rec .min) (extraIn (e .info) + 1) (common .at-least), le-leb (extraIn (e .info) + 1) (rec .max) (common .at-most)) (common .its-end (pointIn (e .info)) p)
+
+  common-rest : pick (t7 (lineIn e)) (t8 (sub1In (rec .subchar1)) (lineIn e)) false ≡ true
+  common-rest =
+      rest-is e (rec .subchar1) common-formed
+      ∙ rw (ne-eqb (rankIn (e .info)) 3 no-two) (first-kept (rankIn (e .info)) (extraIn (e .info)) (e .bits / 16777216) (common .its-first))
+
+  common-kept : pointIn (e .info) ≤ 0xffff → t6 (record { point = pointIn (e .info); code = []; indicator = 0 }) ≡ true → lineOk step rec e ≡ true
+  common-kept p t = line-formed step rec e common-formed ∙ rw (t, common-rest, common-t5 p)
+
+pub common-line : (step : Rows) (rec : Record) (e : Entry) (extra : ℕ) → extraIn (e .info) ≡ extra → CommonCode step (rec .min) (rec .max) (extra + 1) (e .bits)
+    → rankIn (e .info) ≤ 2 → pointIn (e .info) ≤ 0xffff → t6 (record { point = pointIn (e .info); code = []; indicator = 0 }) ≡ true → lineOk step rec e ≡ true
+common-line step rec e extra same common written p t =
+    common-kept step rec e (subst (λ (n : ℕ). CommonCode step (rec .min) (rec .max) (n + 1) (e .bits)) (sym same) common) written p t
 
 -- lengths of a code with zeros in its unused places
 pub padded-length : (len bits : ℕ) → padded len bits ≡ true → (1 ≤ len) × (len ≤ 4)

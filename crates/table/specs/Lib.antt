@@ -6,6 +6,7 @@ pub mod Rules
 pub mod Entry
 pub mod Memory
 pub mod Search
+pub mod Common
 pub mod Valid
 pub mod Text
 pub mod Row

@@ -6,8 +6,8 @@ ghost use lib.Dec.{ltb};
 ghost use lib.ListN.{length, getD, take, drop};
 ghost use Rattle.lists.specs.Pick.{pick};
 ghost use Rattle.table.specs.Limits.{limits};
-ghost use Rattle.table.specs.States.{stepAt, cutOf, endKind};
-ghost use Rattle.table.specs.Codes.{bytesOf};
+ghost use Rattle.table.specs.States.{stepAt, cutFrom, cutOf, endKind};
+ghost use Rattle.table.specs.Codes.{unpacked, bytesOf};
 ghost use Rattle.table.specs.Rules.{allOf, t3};
 ghost use Rattle.table.specs.Valid.{stateOk, statesOk, zeros};
 ghost use Rattle.table.specs.LeadMarks.{marked, MarksOf, markedWithin};
@@ -77,12 +77,13 @@ pub fn step_at(states: &[u16], row: u16, b: u8) -> Step
     Step::Ends(e)
 }
 
-// The sequence at the front of an input, from its initial row on.
-pub fn cut_one(states: &[u16], row: u16, s: &[u8]) -> Cut
-    ensures { λ r. ⌜ r ≡ cutOf (stepAt (now (states .entry))) row (now (s .entry)) ⌝ }
+// The rest of a sequence of which `from` bytes led on to a row.
+fn cut_on(states: &[u16], row: u16, s: &[u8], from: usize) -> Cut
+    requires { ⌜ from ≤ 4 ⌝ }
+    ensures { λ r. ⌜ r ≡ cutFrom (stepAt (now (states .entry))) (4 - from) row from (drop from (now (s .entry))) ⌝ }
 {
     let mut at_row = row;
-    let mut at = 0;
+    let mut at = from;
     while at < 4 {
         if s.len() <= at {
             return Cut::Stopped(Halt::CutShort);
@@ -101,6 +102,31 @@ pub fn cut_one(states: &[u16], row: u16, s: &[u8]) -> Cut
         }
     }
     Cut::Stopped(Halt::Illegal(at))
+}
+
+// The sequence at the front of an input, from its initial row on; often its first byte decides.
+pub fn cut_one(states: &[u16], row: u16, s: &[u8]) -> Cut
+    ensures { λ r. ⌜ r ≡ cutOf (stepAt (now (states .entry))) row (now (s .entry)) ⌝ }
+{
+    if s.len() == 0 {
+        return Cut::Stopped(Halt::CutShort);
+    }
+    match step_at(states, row, s[0]) {
+        Step::Illegal => Cut::Stopped(Halt::Illegal(1)),
+        Step::Ends(e) => Cut::Complete(1, e),
+        Step::Leads(n) => cut_on(states, n, s, 1),
+    }
+}
+
+// How a code's last byte, the highest of 32 bits, ends it from a row on, or 0.
+pub(crate) fn last_kind(states: &[u16], row: u16, bits: u32) -> u16
+    ensures { λ r. ⌜ r ≡ endKind (stepAt (now (states .entry))) row (unpacked 1 bits) ⌝ }
+{
+    match step_at(states, row, (bits / 16777216) as u8) {
+        Step::Illegal => 0,
+        Step::Ends(e) => e,
+        Step::Leads(_) => 0,
+    }
 }
 
 // How a code ends from a row on, or 0 where it is no complete code.

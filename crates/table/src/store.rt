@@ -3,13 +3,13 @@
 use crate::states::Code;
 ghost use mathlib.Core.Path.{_≡_};
 ghost use mathlib.Core.Bool.{true};
-ghost use mathlib.Core.List.{_++_, map};
-ghost use Prim.Native.Nat.{_+_, _-_, _≤_, _<_};
+ghost use mathlib.Core.List.{List, _++_, map};
+ghost use Prim.Native.Nat.{ℕ, _+_, _-_, _≤_, _<_};
 ghost use lib.ListN.{length, take, drop};
 ghost use Rattle.lists.specs.Order.{All, Rising, insert};
 ghost use Rattle.table.specs.Entry.{mk, bitsOf, infoOf, extraIn, keyIn, less, pointLess};
 ghost use Rattle.table.specs.Memory.{entries, orderOf};
-ghost use Rattle.table.specs.Search.{readOf, writeOf, placeIn, pointPlaceIn, picked, shiftIn, bump, readTaken, writeTaken, Ready};
+ghost use Rattle.table.specs.Search.{readOf, writeOf, placeIn, pointPlaceIn, picked, shiftIn, bump, readTaken, writeTaken, Ready, ReadsAt, WritesAt};
 ghost use Rattle.table.specs.Valid.{zeros, storeOk, Kept};
 
 // How often a search looks at an entry at most: enough for 4,095 of them.
@@ -23,7 +23,7 @@ pub enum Found {
 }
 
 // The key of the second order: the code point, then lines that write before `|3` lines.
-fn key_of(info: u32) -> u32
+pub(crate) fn key_of(info: u32) -> u32
     ensures { λ r. ⌜ r ≡ keyIn info ⌝ }
 {
     let k = info % 2097152 * 2;
@@ -213,6 +213,83 @@ pub fn find_point(codes: &[u32], infos: &[u32], order: &[u32], n: u32, point: u3
     Found::Hit(c, i)
 }
 
+// Whether the line at a place is there and reads a code.
+fn reads_at(codes: &[u32], infos: &[u32], n: u32, code: Code, at: usize) -> bool
+    ensures { λ r. ⌜ (r ≡ true → ReadsAt n (now (codes .entry)) (now (infos .entry)) (code .bits) (code .len) at) ⌝ }
+{
+    if (n as usize) <= at {
+        return false;
+    }
+    if codes.len() <= at {
+        return false;
+    }
+    if infos.len() <= at {
+        return false;
+    }
+    if codes[at] != code.bits {
+        return false;
+    }
+    let i = infos[at];
+    if i / 16777216 + 1 != code.len {
+        return false;
+    }
+    i / 2097152 % 8 <= 1
+}
+
+// The same as `find_code`, with one look at a place before the search: a line there that reads the code is the only one.
+// Whatever the place, the answer is the same; it is found sooner where the place is right. Of mappings that do not pass
+// the test behind 60 the contract says nothing.
+pub fn find_code_near(codes: &[u32], infos: &[u32], n: u32, code: Code, at: usize) -> Found
+    ensures { λ r. ⌜ ((order : List ℕ) → storeOk 2048 n (now (codes .entry)) (now (infos .entry)) order ≡ true → 1 ≤ code .len → code .len ≤ 4
+        → r ≡ readOf (code .bits) (code .len - 1) (entries (take n (now (codes .entry))) (take n (now (infos .entry))))) ⌝ }
+{
+    if reads_at(codes, infos, n, code, at) {
+        return Found::Hit(codes[at], infos[at]);
+    }
+    find_code(codes, infos, n, code)
+}
+
+// Whether the line at a place is there and says what becomes of a code point.
+fn writes_at(codes: &[u32], infos: &[u32], n: u32, point: u32, at: usize) -> bool
+    ensures { λ r. ⌜ (r ≡ true → WritesAt n (now (codes .entry)) (now (infos .entry)) point at) ⌝ }
+{
+    if (n as usize) <= at {
+        return false;
+    }
+    if codes.len() <= at {
+        return false;
+    }
+    if infos.len() <= at {
+        return false;
+    }
+    let i = infos[at];
+    if i % 2097152 != point {
+        return false;
+    }
+    if i / 2097152 % 8 == 1 {
+        return false;
+    }
+    true
+}
+
+// The same as `find_point`, with one look at a place of the first order before the search.
+pub fn find_point_near(
+    codes: &[u32],
+    infos: &[u32],
+    order: &[u32],
+    n: u32,
+    point: u32,
+    at: usize,
+) -> Found
+    ensures { λ r. ⌜ (storeOk 2048 n (now (codes .entry)) (now (infos .entry)) (now (order .entry)) ≡ true
+        → r ≡ writeOf point (entries (take n (now (codes .entry))) (take n (now (infos .entry))))) ⌝ }
+{
+    if writes_at(codes, infos, n, point, at) {
+        return Found::Hit(codes[at], infos[at]);
+    }
+    find_point(codes, infos, order, n, point)
+}
+
 // Some stored line is read and shares the new one's bytes.
 pub(crate) fn read_taken(codes: &[u32], infos: &[u32], n: u32, c: u32, i: u32) -> bool
     requires { ⌜ (n ≤ 2048) × (n ≤ length (now codes)) × (n ≤ length (now infos)) × Rising less (entries (take n (now codes)) (take n (now infos))) × (extraIn i < 4) ⌝ }
@@ -268,7 +345,15 @@ fn shift_in(xs: &mut [u32], n: usize, at: usize, x: u32)
     xs[n] = c;
 }
 
-// Adds one to every index at or past a place; nothing to do where the place is behind all.
+// An index after an insertion at a place: one more at or past it.
+fn bump_index(at: u32, v: u32) -> u32
+    requires { ⌜ v < 4096 ⌝ }
+    ensures { λ r. ⌜ r ≡ bump at v ⌝ }
+{
+    if at <= v { v + 1 } else { v }
+}
+
+// Adds one to every index at or past a place, each by the same steps, so that many can be done at once; nothing to do where the place is behind all.
 fn renumber(order: &mut [u32], n: usize, at: usize)
     requires { ⌜ (n ≤ length (now order)) × (n < 4096) × All (λ k. k < n) (take n (now order)) ⌝ }
     ensures { λ _. ⌜ now (order .exit) ≡ map (bump at) (take n (now (order .entry))) ++ drop n (now (order .entry)) ⌝ }
@@ -276,15 +361,11 @@ fn renumber(order: &mut [u32], n: usize, at: usize)
     if n <= at {
         return;
     }
+    let from = at as u32;
     let mut k: usize = 0;
     while k < n {
-        let v = order[k];
-        if at <= (v as usize) {
-            order[k] = v + 1;
-            k += 1;
-        } else {
-            k += 1;
-        }
+        order[k] = bump_index(from, order[k]);
+        k += 1;
     }
 }
 

@@ -1,10 +1,11 @@
 // The test behind number 60: record and memory keep the rules and the form.
 use crate::states::Code;
 use crate::states::NEEDED;
+use crate::states::Step;
 ghost use mathlib.Core.Path.{_≡_};
 ghost use mathlib.Core.Bool.{true, false};
 ghost use mathlib.Core.List.{[]};
-ghost use Prim.Native.Nat.{_+_, _≤_, _<_};
+ghost use Prim.Native.Nat.{ℕ, _+_, _≤_, _<_};
 ghost use lib.ListN.{length, take};
 ghost use lib.Dec.{leb};
 ghost use Rattle.lists.specs.Pick.{pick};
@@ -13,8 +14,9 @@ ghost use Rattle.table.specs.Limits.{limits};
 ghost use Rattle.table.specs.States.{stepAt, endKind};
 ghost use Rattle.table.specs.Codes.{bytesOf};
 ghost use Rattle.table.specs.Rules.{allOf, t4Sub, t4Sub1, t5Kind, t6, t7, t8};
-ghost use Rattle.table.specs.Entry.{mk, lineIn, padded, entryOk, readNext, writeNext};
+ghost use Rattle.table.specs.Entry.{mk, lineIn, padded, entryOk, keyIn, readNext, writeNext};
 ghost use Rattle.table.specs.Memory.{entries, sub1In};
+ghost use Rattle.table.specs.Common.{CommonCode};
 ghost use Rattle.table.specs.Valid.{ordered, recordOk, lineOk, storeOk, valid};
 
 // The mappings that a table can have, which is what each mapping slice needs.
@@ -34,11 +36,11 @@ pub struct Record {
 fn read_next(c: u32, i: u32, d: u32, j: u32) -> bool
     ensures { λ r. ⌜ r ≡ readNext (mk c i) (mk d j) ⌝ }
 {
+    if c < d {
+        return true;
+    }
     if !crate::store::entry_less(c, i, d, j) {
         return false;
-    }
-    if c != d {
-        return true;
     }
     if i / 16777216 != j / 16777216 {
         return true;
@@ -69,6 +71,17 @@ fn write_next(c: u32, i: u32, d: u32, j: u32) -> bool
         return true;
     }
     false
+}
+
+// The same with both keys of the second order at hand, which mostly decide alone.
+fn keys_next(key: u32, next: u32, c: u32, i: u32, d: u32, j: u32) -> bool
+    requires { ⌜ (key ≡ keyIn i) × (next ≡ keyIn j) ⌝ }
+    ensures { λ r. ⌜ r ≡ writeNext (mk c i) (mk d j) ⌝ }
+{
+    if key < next {
+        return true;
+    }
+    write_next(c, i, d, j)
 }
 
 // Unused places behind the bytes of a code are zero, and it has 1 to 4.
@@ -158,8 +171,86 @@ fn keeps_t7_t8(sub1: u32, bits: u32, info: u32) -> bool
     true
 }
 
-// A stored line: of the form, and T5 to T8.
-fn line_ok(steps: &[u16], rec: Record, bits: u32, info: u32) -> bool
+// How a code ends: as one that may stand for any code point up to U+FFFF.
+fn is_assigned(kind: u16) -> bool
+    ensures { λ r. ⌜ ((point : ℕ) → point ≤ 0xffff → r ≡ t5Kind point kind) ⌝ }
+{
+    if kind == 2 {
+        return true;
+    }
+    if kind == 1 {
+        return true;
+    }
+    false
+}
+
+// The rules of a common line for a code of one byte.
+fn one_byte_ok(steps: &[u16], min: u32, max: u32, bits: u32) -> bool
+    ensures { λ r. ⌜ (r ≡ true → CommonCode (stepAt (now (steps .entry))) min max 1 bits) ⌝ }
+{
+    if 1 < min {
+        return false;
+    }
+    if max < 1 {
+        return false;
+    }
+    if bits % 16777216 != 0 {
+        return false;
+    }
+    is_assigned(crate::states::last_kind(steps, 0, bits))
+}
+
+// The rules of a common line for a code of two bytes.
+fn two_bytes_ok(steps: &[u16], min: u32, max: u32, bits: u32) -> bool
+    ensures { λ r. ⌜ (r ≡ true → CommonCode (stepAt (now (steps .entry))) min max 2 bits) ⌝ }
+{
+    if 2 < min {
+        return false;
+    }
+    if max < 2 {
+        return false;
+    }
+    if bits % 65536 != 0 {
+        return false;
+    }
+    if bits / 16777216 == 0 {
+        return false;
+    }
+    match crate::states::step_at(steps, 0, (bits / 16777216) as u8) {
+        Step::Illegal => false,
+        Step::Ends(_) => false,
+        Step::Leads(row) => {
+            is_assigned(crate::states::last_kind(steps, row, bits % 16777216 * 256))
+        }
+    }
+}
+
+// A first test for the common line, which has one or two bytes, is no `|2` line and stands for a code point up to
+// U+FFFF: what passes keeps the rules, of what does not nothing is said.
+fn common_ok(steps: &[u16], rec: Record, bits: u32, info: u32) -> bool
+    ensures { λ r. ⌜ (r ≡ true → lineOk (stepAt (now (steps .entry))) rec (mk bits info) ≡ true) ⌝ }
+{
+    let point = info % 2097152;
+    if 0xffff < point {
+        return false;
+    }
+    if !keeps_t6(point) {
+        return false;
+    }
+    if 2 < info / 2097152 % 8 {
+        return false;
+    }
+    if info / 16777216 == 0 {
+        return one_byte_ok(steps, rec.min, rec.max, bits);
+    }
+    if info / 16777216 == 1 {
+        return two_bytes_ok(steps, rec.min, rec.max, bits);
+    }
+    false
+}
+
+// A stored line, rule by rule: of the form, and T5 to T8.
+fn rules_ok(steps: &[u16], rec: Record, bits: u32, info: u32) -> bool
     ensures { λ r. ⌜ r ≡ lineOk (stepAt (now (steps .entry))) rec (mk bits info) ⌝ }
 {
     if !entry_ok(bits, info) {
@@ -181,6 +272,16 @@ fn line_ok(steps: &[u16], rec: Record, bits: u32, info: u32) -> bool
     keeps_t5(steps, rec.min, rec.max, info % 2097152, code)
 }
 
+// A stored line: of the form, and T5 to T8.
+fn line_ok(steps: &[u16], rec: Record, bits: u32, info: u32) -> bool
+    ensures { λ r. ⌜ r ≡ lineOk (stepAt (now (steps .entry))) rec (mk bits info) ⌝ }
+{
+    if common_ok(steps, rec, bits, info) {
+        return true;
+    }
+    rules_ok(steps, rec, bits, info)
+}
+
 // One pass over the entries: each is a line that keeps T5 to T8, they rise, and no two neighbours are read for the
 // same bytes.
 fn lines_ok(steps: &[u16], rec: Record, codes: &[u32], infos: &[u32]) -> bool
@@ -192,7 +293,7 @@ fn lines_ok(steps: &[u16], rec: Record, codes: &[u32], infos: &[u32]) -> bool
     }
     let mut c = codes[0];
     let mut i = infos[0];
-    if !line_ok(steps, rec, c, i) {
+    if !rules_ok(steps, rec, c, i) {
         return false;
     }
     let mut k: usize = 1;
@@ -224,14 +325,17 @@ fn order_ok(codes: &[u32], infos: &[u32], order: &[u32]) -> bool
     if codes.len() <= p {
         return false;
     }
+    let mut key = crate::store::key_of(infos[p]);
     let mut k: usize = 1;
     while k < order.len() {
         let q = order[k] as usize;
         if codes.len() <= q {
             return false;
         }
-        if write_next(codes[p], infos[p], codes[q], infos[q]) {
+        let next = crate::store::key_of(infos[q]);
+        if keys_next(key, next, codes[p], infos[p], codes[q], infos[q]) {
             p = q;
+            key = next;
             k += 1;
         } else {
             return false;

@@ -1,28 +1,17 @@
 -- Groups of six bits by shifts and masks: put under a value, taken from a code point, and the lead byte above them.
-use mathlib.Core.Path.{_≡_, sym, ap, _∙_}
+use mathlib.Core.Path.{_≡_, sym}
 use Prim.Native.Nat.{ℕ, suc, _+_, _*_, _/_, _%_, _^_, _≤_, _<_}
 use native.Mathlib.Omega.{arith}
 use borrow.Author.Tests.{lt-ltb, le-ltb, ltb-true, ltb-false}
 use lib.Bits.{bitOr, or-shifted}
 use lib.Dec.{lit≤, ltb}
-use lib.Pow.{shl-exact, shr-shr, pow-add, pow-mono}
+use lib.Pow.{shl-exact, shr-shr}
 use Rattle.lists.proofs.Cases.{pick-case}
 use Rattle.unicode.specs.Utf8.{markOf, trailCount, trailByte, leadByte}
 
 -- six bits are put under a value that has room for them
 pub six-under : (v y : ℕ) → v < 2 ^ 26 → y < 64 → bitOr (v * 2 ^ 6 % 2 ^ 32) y ≡ v * 64 + y
 six-under v y h l = rw (shl-exact 26 6 32 h (lit≤ tt)) (or-shifted v 6 y l)
-
--- the bound on the value goes up by six bits
-pub room : (i v x : ℕ) → v < 2 ^ (6 * i + 1) → v * 64 + x % 64 < 2 ^ (6 * (i + 1) + 1)
-room i v x h =
-    let e : 2 ^ (6 * (i + 1) + 1) ≡ 2 ^ (6 * i + 1) * 64 = ap (λ (n : ℕ). 2 ^ n) (omega arith) ∙ pow-add 2 (6 * i + 1) 6 in
-    omega arith
-
-pub room-fits : (i v : ℕ) → i ≤ 4 → v < 2 ^ (6 * i + 1) → v < 2 ^ 26
-room-fits i v l h =
-    let m : 2 ^ (6 * i + 1) ≤ 2 ^ 26 = pow-mono {j = 26} (omega arith) in
-    omega arith
 
 -- one group further up
 pub up : (c k : ℕ) → c / 2 ^ (6 * suc k) ≡ c / 2 ^ (6 * k) / 64
@@ -63,6 +52,13 @@ count-case P c one two three four =
     pick-case P (ltb c 0x80) _ _ (λ t. one (ltb-true _ _ t))
     (λ t0. pick-case P (ltb c 0x800) _ _ (λ t. two (ltb-false _ _ t0, ltb-true _ _ t))
     (λ t1. pick-case P (ltb c 0x10000) _ _ (λ t. three (ltb-false _ _ t1, ltb-true _ _ t)) (λ t2. four (ltb-false _ _ t2))))
+
+-- at most three trail bytes
+abbrev UpToThree : ℕ → Type 0
+UpToThree k = k ≤ 3
+
+pub count-most : (c : ℕ) → trailCount c ≤ 3
+count-most c = count-case UpToThree c (λ h. omega arith) (λ h. omega arith) (λ h. omega arith) (λ h. omega arith)
 
 -- what stands above the groups does not reach into the lead byte's mark
 abbrev pub LeadOk : ℕ → ℕ → Type 0

@@ -1,22 +1,22 @@
--- Encoding into a list: a turn of the loop, the answer and the list in each of the three cases, and what an answer tells a caller.
+-- Encoding into a list: the answer and the list in each of the three cases, and what an answer tells a caller.
 use mathlib.Core.Path.{_≡_, refl, sym, ap, _∙_}
-use Prim.Native.Nat.{ℕ, zero, suc, _+_, _-_, _≤_, _<_}
-use mathlib.Core.List.{List}
+use Prim.Native.Nat.{ℕ, zero, suc, _+_, _≤_, _<_}
+use mathlib.Core.List.{List, _∷_}
 use mathlib.Core.Bool.{Bool, true, false}
 use native.Mathlib.Omega.{arith}
 use native.Mathlib.Numerals.{add-one}
 use borrow.Author.Tests.{lt-ltb, ltb-true, ltb-false, le-leb, lt-leb, leb-true, leb-false}
 use lib.Dec.{ltb}
-use lib.ListN.{length, set}
+use lib.ListN.{length}
 use lib.Seq.{sets, sets-eq}
 use Rattle.lists.specs.Pick.{pick}
 use Rattle.lists.specs.Place.{fits, placed}
 use Rattle.lists.proofs.Laws.{clash}
 use Rattle.lists.proofs.Cases.{pick-case}
-use Rattle.unicode.specs.Utf8.{Scalar, isScalar, trailCount, trailByte, leadByte, trailBytes, encodeOf, encodeAnswer, encodeInto}
+use Rattle.unicode.specs.Utf8.{Scalar, isScalar, trailCount, leadByte, trailBytes, encodeOf, encodeAnswer, encodeInto}
 use Rattle.unicode.specs.declared.utf8.Put.{Put}
 use Rattle.unicode.specs.declared.utf8.Put.the-variants.{Done, Full, NotScalar}
-use Rattle.unicode.proofs.Groups.{count-case}
+use Rattle.unicode.proofs.Groups.{count-most}
 
 -- the test of a scalar value, both ways
 pub is-scalar : (c : ℕ) → isScalar c ≡ true → Scalar c
@@ -33,17 +33,6 @@ scalar-is c s =
     pick-case (λ (t : Bool). t ≡ true) (ltb c 0xd800) _ _ (λ t. refl)
     (λ t0. pick-case (λ (t : Bool). t ≡ true) (ltb c 0xe000) _ _ (λ t. absurd (s .plain (ltb-false c 0xd800 t0, ltb-true c 0xe000 t))) (λ t1. lt-ltb c 0x110000 (s .below)))
 
--- one more trail byte is stored, or none
-pub put-one : (c : ℕ) (out : List ℕ) (i k : ℕ) → 0 < k → sets out i (trailBytes c k) ≡ sets (set out i (trailByte c (k - 1))) (i + 1) (trailBytes c (k - 1))
-put-one c out i zero h = absurd (omega arith)
-put-one c out i (suc k) h =
-    let e : suc k - 1 ≡ k = omega arith in
-    rw (e, add-one i)
-
-pub put-none : (c : ℕ) (out : List ℕ) (i k : ℕ) → k ≤ 0 → sets out i (trailBytes c k) ≡ out
-put-none c out i zero h = refl
-put-none c out i (suc k) h = absurd (omega arith)
-
 -- how long an encoding is
 length-trails : (c k : ℕ) → length (trailBytes c k) ≡ k
 length-trails c zero = refl
@@ -53,13 +42,12 @@ pub length-count : (c : ℕ) → length (encodeOf c) ≡ trailCount c + 1
 unfolding encodeOf
 length-count c = ap suc (length-trails c (trailCount c)) ∙ sym (add-one (trailCount c))
 
-abbrev UpToThree : ℕ → Type 0
-UpToThree k = k ≤ 3
-
 pub length-encode : (c : ℕ) → (1 ≤ length (encodeOf c)) × (length (encodeOf c) ≤ 4)
-length-encode c =
-    let k : trailCount c ≤ 3 = count-case UpToThree c (λ h. omega arith) (λ h. omega arith) (λ h. omega arith) (λ h. omega arith) in
-    omega (arith, length-count c)
+length-encode c = omega (arith, length-count c, count-most c)
+
+-- the answer and the list where the lead byte and k trail bytes are stored
+abbrev pub Stored : ℕ → List ℕ → ℕ → ℕ → Type 0
+Stored c out at k = (Done (k + 1) ≡ encodeAnswer c out at) × (sets out at (leadByte c k ∷ trailBytes c k) ≡ encodeInto c out at)
 
 -- the answer and the list, by what the tests said
 pub refused : (c : ℕ) (out : List ℕ) (at : ℕ) → isScalar c ≡ false → (NotScalar ≡ encodeAnswer c out at) × (out ≡ encodeInto c out at)
@@ -74,13 +62,12 @@ module _ (c : ℕ) (out : List ℕ) (at trails : ℕ) (yes : isScalar c ≡ true
       let t = lt-leb (at + length (encodeOf c)) (length out) (omega arith) in
       (simp (yes, t), simp (yes, t))
 
-  pub done : at + (trails + 1) ≤ length out
-      → (Done (trails + 1) ≡ encodeAnswer c out at) × (sets (set out at (leadByte c trails)) (at + 1) (trailBytes c trails) ≡ encodeInto c out at)
+  pub done : at + (trails + 1) ≤ length out → Stored c out at trails
   unfolding encodeOf encodeAnswer encodeInto
   done h =
       let n = length-count c in
       let t = le-leb (at + length (encodeOf c)) (length out) (omega arith) in
-      (simp (yes, t) (ap Done (omega arith)), rw (add-one at, e) (sets-eq (encodeOf c) out at (omega arith) ∙ simp (yes, t)))
+      (simp (yes, t) (ap Done (omega arith)), rw e (sets-eq (encodeOf c) out at (omega arith) ∙ simp (yes, t)))
 
 -- what each answer tells a caller
 pub record PutDone (c : ℕ) (old : List ℕ) (at m : ℕ) : Type 0 where

@@ -1,8 +1,9 @@
 // UTF-8 as RFC 3629 has it: one sequence is decoded, one code point is encoded.
 ghost use mathlib.Core.Path.{_≡_};
-ghost use Prim.Native.Nat.{_+_, _*_, _%_, _^_, _≤_, _<_};
+ghost use Prim.Native.Nat.{ℕ, suc, _+_, _*_, _%_, _^_, _≤_, _<_};
 ghost use lib.ListN.{drop};
 ghost use Rattle.unicode.specs.Utf8.{isScalar, stopNumber, markOf, leadOf, trailsOf, decodeOne, trailCount, trailByte, leadByte, encodeAnswer, encodeInto};
+ghost use Rattle.unicode.specs.declared.utf8.Sequence.the-variants.{Scalar};
 
 // Why a sequence gives no scalar value. An illegal one has a length: up to and including the byte that made it so.
 // Only a conversion, which knows a table, makes Unassigned.
@@ -139,34 +140,53 @@ fn put_six(v: u32, x: u8) -> u32
     (v << 6) | low_six(wide(x))
 }
 
+// The trail byte at a place of `s`, from `lo` to `hi`, its six bits put under `v`.
+fn trail_at(s: &[u8], i: usize, lo: u8, hi: u8, v: u32) -> Sequence
+    requires { ⌜ v < 2 ^ 26 ⌝ }
+    ensures { λ r. ⌜ r ≡ trailsOf 1 lo hi v i (drop i (now (s .entry))) ⌝ }
+{
+    if s.len() <= i {
+        return Sequence::Stopped(Stop::CutShort);
+    }
+    let x = s[i];
+    if x < lo {
+        return Sequence::Stopped(Stop::Illegal(i + 1));
+    }
+    if hi < x {
+        return Sequence::Stopped(Stop::Illegal(i + 1));
+    }
+    Sequence::Scalar(put_six(v, x), i + 1)
+}
+
+// One more trail byte behind those that have been read; a stop stays as it is.
+fn trail_behind(s: &[u8], read: Sequence) -> Sequence
+    requires { ⌜ ((v i : ℕ) → read ≡ Scalar v i → v < 2 ^ 26) ⌝ }
+    ensures { λ r. ⌜ ((k lo hi v : ℕ) → read ≡ trailsOf (suc k) lo hi v 1 (drop 1 (now (s .entry)))
+        → r ≡ trailsOf (suc (suc k)) lo hi v 1 (drop 1 (now (s .entry)))) ⌝ }
+{
+    match read {
+        Sequence::Stopped(stop) => Sequence::Stopped(stop),
+        Sequence::Scalar(v, i) => trail_at(s, i, 0x80, 0xbf, v),
+    }
+}
+
 // The trail bytes behind the first byte of `s`, the first of them from `lo` to `hi`, each putting six bits under `top`.
 fn trails_of(s: &[u8], trails: usize, lo: u8, hi: u8, top: u32) -> Sequence
     requires { ⌜ (trails ≤ 3) × (top < 128) ⌝ }
     ensures { λ r. ⌜ r ≡ trailsOf trails lo hi top 1 (drop 1 (now (s .entry))) ⌝ }
 {
-    let mut left = trails;
-    let mut i = 1;
-    let mut l = lo;
-    let mut h = hi;
-    let mut v = top;
-    while 0 < left {
-        if s.len() <= i {
-            return Sequence::Stopped(Stop::CutShort);
-        }
-        let x = s[i];
-        if x < l {
-            return Sequence::Stopped(Stop::Illegal(i + 1));
-        }
-        if h < x {
-            return Sequence::Stopped(Stop::Illegal(i + 1));
-        }
-        v = put_six(v, x);
-        l = 0x80;
-        h = 0xbf;
-        left -= 1;
-        i += 1;
+    if trails == 0 {
+        return Sequence::Scalar(top, 1);
     }
-    Sequence::Scalar(v, i)
+    let one = trail_at(s, 1, lo, hi, top);
+    if trails == 1 {
+        return one;
+    }
+    let two = trail_behind(s, one);
+    if trails == 2 {
+        return two;
+    }
+    trail_behind(s, two)
 }
 
 // The sequence at the front of `s`.
@@ -176,7 +196,11 @@ pub fn decode(s: &[u8]) -> Sequence
     if s.len() == 0 {
         return Sequence::Stopped(Stop::CutShort);
     }
-    let lead = lead_of(s[0]);
+    let b = s[0];
+    if b < 0x80 {
+        return Sequence::Scalar(wide(b), 1);
+    }
+    let lead = lead_of(b);
     match lead {
         Lead::Of {
             trails,
@@ -248,12 +272,17 @@ pub fn encode(c: u32, out: &mut [u8], at: usize) -> Put
         return Put::Full;
     }
     out[at] = lead_byte(c, trails);
-    let mut k = trails;
-    let mut i = at + 1;
-    while 0 < k {
-        k -= 1;
-        out[i] = trail_byte(c, k);
-        i += 1;
+    if trails == 0 {
+        return Put::Done(1);
     }
-    Put::Done(trails + 1)
+    out[at + 1] = trail_byte(c, trails - 1);
+    if trails == 1 {
+        return Put::Done(2);
+    }
+    out[at + 2] = trail_byte(c, trails - 2);
+    if trails == 2 {
+        return Put::Done(3);
+    }
+    out[at + 3] = trail_byte(c, 0);
+    Put::Done(4)
 }

@@ -1,3 +1,5 @@
+-- `from_run` meets its contract. The invariant: the run from here, after what is read and written, is the whole run. The
+-- measure: the input left.
 use mathlib.Core.Path.{_≡_, sym, ap, _∙_}
 use Prim.Native.Nat.{ℕ, _+_, _-_}
 use mathlib.Core.List.{List}
@@ -19,32 +21,32 @@ use Rattle.convert.proofs.from_run.Statement.{statement}
 use Rattle.convert.proofs.from_run.Tie as tie
 
 abbrev Inv-loop : tie.InvT-loop
-Inv-loop rec states codes infos order input out₀ fallback substitute at₀ w₀ out at w = Going (fromStep utf8 (tableIn rec states codes infos) fallback substitute) 0 input out₀ out 0 at w
+Inv-loop rec states codes infos order hints input out₀ fallback substitute at₀ w₀ out at w = Going (fromStep utf8 (tableIn rec states codes infos) fallback substitute) 0 input out₀ out 0 at w
 
 abbrev μ-loop : tie.MeasureT-loop
-μ-loop rec states codes infos order input out₀ fallback substitute at₀ w₀ out at w = length input - at
+μ-loop rec states codes infos order hints input out₀ fallback substitute at₀ w₀ out at w = length input - at
 
 -- the step and the rest of the input at a turn
 abbrev stepAt : tie.After-from-step Inv-loop μ-loop → Step
-stepAt d = let a = d .before .before .before .before .before .before .before .before .before .before .args in fromStep utf8 (tableIn (a .rec) (a .states .now) (a .codes .now) (a .infos .now)) (a .fallback) (a .substitute)
+stepAt d = let a = d .before .before .before .before .before .before .before .before .before .before .before .args in fromStep utf8 (tableIn (a .rec) (a .states .now) (a .codes .now) (a .infos .now)) (a .fallback) (a .substitute)
 
 abbrev restAt : tie.After-from-step Inv-loop μ-loop → List ℕ
-restAt d = drop (d .before .before .before .loop .at) (d .before .before .before .before .before .before .before .before .before .before .args .input .now)
+restAt d = drop (d .before .before .before .loop .at) (d .before .before .before .before .before .before .before .before .before .before .before .args .input .now)
 
 soundAt : (d : tie.After-from-step Inv-loop μ-loop) → Sound (stepAt d)
-soundAt d = let a = d .before .before .before .before .before .before .before .before .before .before .args in from-sound utf8 utf8-lawful (tableIn (a .rec) (a .states .now) (a .codes .now) (a .infos .now)) (a .fallback) (a .substitute)
+soundAt d = let a = d .before .before .before .before .before .before .before .before .before .before .before .args in from-sound utf8 utf8-lawful (tableIn (a .rec) (a .states .now) (a .codes .now) (a .infos .now)) (a .fallback) (a .substitute)
 
 -- what the rest gives
 gaveAt : (d : tie.After-from-step Inv-loop μ-loop) (x : Sent) → d .from-step .result ≡ x → stepAt d 0 (restAt d) ≡ sentOf x
 gaveAt d x e =
-    let a = d .before .before .before .before .before .before .before .before .before .before .args in
+    let a = d .before .before .before .before .before .before .before .before .before .before .before .args in
     ap (stepAt d 0) (sym (rest-is (a .input .now) (d .before .before .before .loop .at)))
-    ∙ sym (d .from-step .ensures (a .states .now) (d .before .before .before .before .before .before .before .before .before .before .pre))
+    ∙ sym (d .from-step .ensures (a .states .now) (d .before .before .before .before .before .before .before .before .before .before .before .pre))
     ∙ ap sentOf e
 
 -- the turn is over
 nextAt : (c : tie.Else1 Inv-loop μ-loop) → let d = c .before .before .before .before .before .before .before .before in
-    Going (stepAt d) 0 (d .before .before .before .before .before .before .before .before .before .before .args .input .now) (d .before .before .before .before .before .before .before .before .before .before .args .out .now) (c .before .before .before .put-code .last .1 .1 .0) 0 (d .before .before .before .loop .at + c .before .before .before .before .before .before .sent2 .given .0 .1 .1 .0) (d .before .before .before .loop .w + c .before .before .before .before .before .before .sent2 .given .0 .1 .0)
+    Going (stepAt d) 0 (d .before .before .before .before .before .before .before .before .before .before .before .args .input .now) (d .before .before .before .before .before .before .before .before .before .before .before .args .out .now) (c .before .before .before .put-code .last .1 .1 .0) 0 (d .before .before .before .loop .at + c .before .before .before .before .before .before .sent2 .given .0 .1 .1 .0) (d .before .before .before .loop .w + c .before .before .before .before .before .before .sent2 .given .0 .1 .0)
 nextAt c =
     let d = c .before .before .before .before .before .before .before .before in
     let q = d .before .before .before .loop in
@@ -56,7 +58,7 @@ nextAt c =
 
 loop-holds : tie.Need-loop-holds Inv-loop μ-loop
 loop-holds c =
-    let a = c .before .before .before .before .before .before .args in
+    let a = c .before .before .before .before .before .before .before .args in
     begin (fromStep utf8 (tableIn (a .rec) (a .states .now) (a .codes .now) (a .infos .now)) (a .fallback) (a .substitute)) 0 (a .input .now) (a .out .now)
 
 sub-from-step : tie.Need-sub-from-step Inv-loop μ-loop
@@ -104,7 +106,7 @@ returns-2 c =
 add-at : tie.Need-add-at Inv-loop μ-loop
 add-at c =
     let g = nextAt c in
-    omega (arith, c .before .before .before .before .before .before .before .before .before .before .before .before .before .before .before .before .before .before .good .1 .1 .1 .1 .1 .0 .0)
+    omega (arith, c .before .before .before .before .before .before .before .before .before .before .before .before .before .before .before .before .before .before .before .good .1 .1 .1 .1 .1 .1 .0 .0)
 
 cast-w : tie.Need-cast-w Inv-loop μ-loop
 cast-w c = search needs
@@ -112,7 +114,7 @@ cast-w c = search needs
 add-w : tie.Need-add-w Inv-loop μ-loop
 add-w c =
     let g = nextAt c in
-    omega (arith, c .before .before .before .before .before .before .before .before .before .before .before .before .before .before .before .before .before .before .good .1 .1 .1 .1 .1 .1 .0 .0)
+    omega (arith, c .before .before .before .before .before .before .before .before .before .before .before .before .before .before .before .before .before .before .before .good .1 .1 .1 .1 .1 .1 .1 .0 .0)
 
 loop-less : tie.Need-loop-less Inv-loop μ-loop
 loop-less c =

@@ -1,79 +1,105 @@
+-- `put_code` meets its contract: no byte, one and two are stored straight, and what is left of more is `put_bytes`'.
 use borrow.Author.Needs.{needs}
-use Prim.Native.Nat.{_+_, _<_, _≤_}
-use mathlib.Core.Path.{_≡_, refl, sym, _∙_}
+use mathlib.Core.Path.{sym, _∙_}
 use native.Mathlib.Omega.{arith}
-use lib.ListN.{length, length-set}
-use lib.Seq.{sets}
-use Rattle.table.specs.Codes.{unpacked}
-use Rattle.convert.proofs.CodeBytes.{put-one, put-none, full, done}
+use lib.ListN.{length-set}
+use Rattle.convert.proofs.CodeBytes.{put-one, put-two, put-none, full, done}
 use Rattle.convert.proofs.put_code.Statement.{statement}
 use Rattle.convert.proofs.put_code.Tie as tie
 
-abbrev Inv-loop : tie.InvT-loop
-Inv-loop bits len out₀ at n k₀ i₀ v₀ out k i v = (sets out i (unpacked k v) ≡ sets out₀ i₀ (unpacked k₀ v₀)) × (i + k ≡ i₀ + k₀) × (length out ≡ length out₀) × (k ≤ k₀) × (v < 4294967296)
+returns : tie.Need-returns
+returns c = let a = c .before .before .args in full (a .out .now) (a .at) (a .len) (a .bits) (omega arith)
 
-abbrev μ-loop : tie.MeasureT-loop
-μ-loop bits len out₀ at n k₀ i₀ v₀ out k i v = k
-
-returns : tie.Need-returns Inv-loop μ-loop
-returns c = let a = c .before .args in full (a .out .now) (a .at) (a .len) (a .bits) (omega arith)
-
-sub-if2 : tie.Need-sub-if2 Inv-loop μ-loop
+sub-if2 : tie.Need-sub-if2
 sub-if2 c = search needs
 
-returns-2 : tie.Need-returns-2 Inv-loop μ-loop
-returns-2 c = let a = c .before .before .args in full (a .out .now) (a .at) (a .len) (a .bits) (omega arith)
+returns-2 : tie.Need-returns-2
+returns-2 c = let a = c .before .before .before .args in full (a .out .now) (a .at) (a .len) (a .bits) (omega arith)
 
-loop-holds : tie.Need-loop-holds Inv-loop μ-loop
-loop-holds c = (refl, refl, refl, omega arith, omega arith)
-
-cast-out : tie.Need-cast-out Inv-loop μ-loop
-cast-out c = omega arith
-
-slice-write-out : tie.Need-slice-write-out Inv-loop μ-loop
-slice-write-out c = search needs
-
-mul-v : tie.Need-mul-v Inv-loop μ-loop
-mul-v c = omega arith
-
-sub-k : tie.Need-sub-k Inv-loop μ-loop
-sub-k c = search needs
-
-add-i : tie.Need-add-i Inv-loop μ-loop
-add-i c = search needs
-
-loop-less : tie.Need-loop-less Inv-loop μ-loop
-loop-less c = search needs
-
-loop-again : tie.Need-loop-again Inv-loop μ-loop
-loop-again c = let l = c .before .loop in (sym (put-one (l .out) (l .i) (l .k) (l .v) (omega arith)) ∙ l .inv .0, omega arith, length-set (l .out) (l .i) _ ∙ l .inv .2, omega arith, omega arith)
-
-same-length : tie.Need-same-length Inv-loop μ-loop
-same-length c = c .before .loop .inv .2
-
-returns-3 : tie.Need-returns-3 Inv-loop μ-loop
+returns-3 : tie.Need-returns-3
 returns-3 c =
-    let l = c .before .loop in
     let a = c .before .before .before .before .args in
     let d = done (a .out .now) (a .at) (a .len) (a .bits) (omega arith) in
-    (d .0, sym (put-none (l .out) (l .i) (l .k) (l .v) (omega arith)) ∙ l .inv .0 ∙ d .1)
+    (d .0, sym (put-none (a .out .now) (a .at) (a .len) (a .bits) (omega arith)) ∙ d .1)
+
+cast-out : tie.Need-cast-out
+cast-out c = search needs
+
+slice-write-out : tie.Need-slice-write-out
+slice-write-out c = search needs
+
+same-length : tie.Need-same-length
+same-length c = search needs
+
+returns-4 : tie.Need-returns-4
+returns-4 c =
+    let a = c .before .before .before .before .before .args in
+    let d = done (a .out .now) (a .at) (a .len) (a .bits) (omega arith) in
+    (d .0, sym (put-one (a .out .now) (a .at) (a .len) (a .bits) (omega arith) ∙ put-none _ _ _ _ (omega arith)) ∙ d .1)
+
+mul-rest : tie.Need-mul-rest
+mul-rest c = search needs
+
+cast-out-2 : tie.Need-cast-out-2
+cast-out-2 c = search needs
+
+add-out : tie.Need-add-out
+add-out c = search needs
+
+slice-write-out-2 : tie.Need-slice-write-out-2
+slice-write-out-2 c = simp length-set (omega arith)
+
+same-length-2 : tie.Need-same-length-2
+same-length-2 c = search needs
+
+returns-5 : tie.Need-returns-5
+returns-5 c =
+    let a = c .before .before .before .before .before .before .args in
+    let d = done (a .out .now) (a .at) (a .len) (a .bits) (omega arith) in
+    (d .0, sym (put-two (a .out .now) (a .at) (a .len) (a .bits) (omega arith) ∙ put-none _ _ _ _ (omega arith)) ∙ d .1)
+
+mul-put-bytes : tie.Need-mul-put-bytes
+mul-put-bytes c = search needs
+
+sub-put-bytes : tie.Need-sub-put-bytes
+sub-put-bytes c = search needs
+
+add-put-bytes : tie.Need-add-put-bytes
+add-put-bytes c = search needs
+
+put-bytes-requires : tie.Need-put-bytes-requires
+put-bytes-requires c κs = simp length-set (omega arith)
+
+same-length-3 : tie.Need-same-length-3
+same-length-3 c = c .before .before .put-bytes .kept .1 .1 .0 ∙ simp length-set
+
+returns-6 : tie.Need-returns-6
+returns-6 c =
+    let a = c .before .before .before .before .before .before .before .before .before .before .args in
+    let d = done (a .out .now) (a .at) (a .len) (a .bits) (omega arith) in
+    (d .0, c .before .before .put-bytes .ensures ∙ sym (put-two (a .out .now) (a .at) (a .len) (a .bits) (omega arith)) ∙ d .1)
 
 pub put-code-spec : {M : Type 1} → statement M
 put-code-spec =
     tie.close
     (tie.spec
-    Inv-loop
-    μ-loop
     returns
     sub-if2
     returns-2
-    loop-holds
+    returns-3
     cast-out
     slice-write-out
-    mul-v
-    sub-k
-    add-i
-    loop-less
-    loop-again
     same-length
-    returns-3)
+    returns-4
+    mul-rest
+    cast-out-2
+    add-out
+    slice-write-out-2
+    same-length-2
+    returns-5
+    mul-put-bytes
+    sub-put-bytes
+    add-put-bytes
+    put-bytes-requires
+    same-length-3
+    returns-6)

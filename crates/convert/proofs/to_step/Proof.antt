@@ -1,3 +1,4 @@
+-- `to_step` meets its contract, by the laws of the look-up in memory that passes the test. Of the hint nothing is asked.
 use mathlib.Core.Path.{sym, ap, _∙_}
 use Prim.Native.Nat.{_<_}
 use native.Mathlib.Omega.{arith}
@@ -11,14 +12,14 @@ use Rattle.convert.proofs.to_step.Statement.{statement}
 use Rattle.convert.proofs.to_step.Tie as tie
 
 -- the codes are numbers of 32 bits, the input is bytes
-smallAt : (d : tie.After-cut-one) → All (λ x. x < 4294967296) (d .before .before .before .before .before .args .codes .now)
-smallAt d = all-places (λ x. x < 4294967296) (d .before .before .before .before .before .args .codes .now) 0 (λ i. d .before .before .before .shared-slice-known2 .given i .fits)
+smallAt : (d : tie.After-cut-one) → All (λ x. x < 4294967296) (d .before .before .before .before .before .before .args .codes .now)
+smallAt d = all-places (λ x. x < 4294967296) (d .before .before .before .before .before .before .args .codes .now) 0 (λ i. d .before .before .before .before .shared-slice-known2 .given i .fits)
 
-subAt : (d : tie.After-cut-one) → d .before .before .before .before .before .args .rec .subchar .bits < 4294967296
-subAt d = omega (arith, d .before .before .before .before .before .good .0)
+subAt : (d : tie.After-cut-one) → d .before .before .before .before .before .before .args .rec .subchar .bits < 4294967296
+subAt d = omega (arith, d .before .before .before .before .before .before .good .0)
 
-bytesAt : (d : tie.After-cut-one) → All (λ b. b < 256) (d .before .before .before .before .before .args .s .now)
-bytesAt d = all-places (λ b. b < 256) (d .before .before .before .before .before .args .s .now) 0 (λ i. d .before .shared-slice-known4 .given i .fits)
+bytesAt : (d : tie.After-cut-one) → All (λ b. b < 256) (d .before .before .before .before .before .before .args .s .now)
+bytesAt d = all-places (λ b. b < 256) (d .before .before .before .before .before .before .args .s .now) 0 (λ i. d .before .shared-slice-known5 .given i .fits)
 
 cut-one-requires : tie.Need-cut-one-requires
 cut-one-requires c κs = search needs
@@ -37,18 +38,24 @@ enum-known-n c = search needs
 
 pack-requires : tie.Need-pack-requires
 pack-requires c κs =
-    let a = c .before .before .before .before .before .before .before .before .args in
+    let a = c .before .before .before .before .before .before .before .before .before .args in
     let k = c .before .n .given in
     cut-within (a .states .now) (a .s .now) (k .0 .0) (k .0 .1 .0) (sym (c .before .before .before .cut-one .ensures) ∙ k .1) .2
 
-cast-t18 : tie.Need-cast-t18
-cast-t18 c =
-    let a = c .before .before .before .before .before .before .before .before .before .args in
-    let k = c .before .before .n .given in
-    omega (arith, cut-within (a .states .now) (a .s .now) (k .0 .0) (k .0 .1 .0) (sym (c .before .before .before .before .cut-one .ensures) ∙ k .1) .1)
+code-slot-requires : tie.Need-code-slot-requires
+code-slot-requires c κs = search needs
 
-find-code-requires : tie.Need-find-code-requires
-find-code-requires c κs = search needs
+hint-at-requires : tie.Need-hint-at-requires
+hint-at-requires c κs = search needs
+
+cast-t21 : tie.Need-cast-t21
+cast-t21 c =
+    let a = c .before .before .before .before .before .before .before .before .before .before .before .before .args in
+    let k = c .before .before .before .before .n .given in
+    omega (arith, cut-within (a .states .now) (a .s .now) (k .0 .0) (k .0 .1 .0) (sym (c .before .before .before .before .before .before .cut-one .ensures) ∙ k .1) .1)
+
+find-code-near-requires : tie.Need-find-code-near-requires
+find-code-near-requires c κs = search needs
 
 enum-known-info : tie.Need-enum-known-info
 enum-known-info c = search needs
@@ -61,27 +68,34 @@ unassigned-requires c κs = search needs
 
 returns : tie.Need-returns
 returns c =
-    let a = c .before .before .before .before .before .before .before .before .before .before .args in
+    let a = c .before .before .before .before .before .before .before .before .before .before .before .args in
     let d = c .before .before .before .before .before in
     λ order ok. sym (to-cut (a .rec) (a .states .now) (a .codes .now) (a .infos .now) order ok (smallAt d) (subAt d) (a .substitute) (a .s .now) (bytesAt d) (cut.Stopped halt.CutShort) (sym (d .cut-one .ensures) ∙ c .before .before .before .halt .given .1 ∙ ap cut.Stopped (c .enum-told .given .1)))
 
 returns-2 : tie.Need-returns-2
 returns-2 c =
-    let a = c .before .before .before .before .before .before .before .before .before .before .before .args in
+    let a = c .before .before .before .before .before .before .before .before .before .before .before .before .args in
     let d = c .before .before .before .before .before .before in
     λ order ok. sym (to-cut (a .rec) (a .states .now) (a .codes .now) (a .infos .now) order ok (smallAt d) (subAt d) (a .substitute) (a .s .now) (bytesAt d) (cut.Stopped (halt.Illegal (c .before .halt2 .given .0 .0))) (sym (d .cut-one .ensures) ∙ c .before .before .before .before .halt .given .1 ∙ ap cut.Stopped (c .before .halt2 .given .1)))
 
 returns-3 : tie.Need-returns-3
 returns-3 c =
-    let a = c .before .before .before .before .before .before .before .before .before .before .before .before .before .args in
-    let d = c .before .before .before .before .before .before .before .before in
-    λ order ok. sym (to-hit (a .rec) (a .states .now) (a .codes .now) (a .infos .now) order ok (smallAt d) (subAt d) (a .substitute) (a .s .now) (bytesAt d) (c .before .before .before .before .before .before .n .given .0 .0) (c .before .before .before .before .before .before .n .given .0 .1 .0) (c .before .before .before .before .pack .result) (sym (d .cut-one .ensures) ∙ c .before .before .before .before .before .before .n .given .1) (c .before .before .before .before .pack .ensures) (c .before .before .before .find-code .result) (c .before .before .before .find-code .ensures) (c .before .info .given .0 .0) (c .before .info .given .0 .1 .0) (c .before .info .given .1))
+    let a = c .before .before .before .before .before .before .before .before .before .before .before .before .before .before .before .before .args in
+    let d = c .before .before .before .before .before .before .before .before .before .before in
+    let k = c .before .before .before .before .before .before .before .before .n .given in
+    let p = c .before .before .before .before .before .before .pack in
+    let f = c .before .before .before .find-code-near in
+    let i = c .before .info .given in
+    λ order ok. sym (to-hit (a .rec) (a .states .now) (a .codes .now) (a .infos .now) order ok (smallAt d) (subAt d) (a .substitute) (a .s .now) (bytesAt d) (k .0 .0) (k .0 .1 .0) (p .result) (sym (d .cut-one .ensures) ∙ k .1) (p .ensures) (f .result) (f .ensures) (i .0 .0) (i .0 .1 .0) (i .1))
 
 returns-4 : tie.Need-returns-4
 returns-4 c =
-    let a = c .before .before .before .before .before .before .before .before .before .before .before .before .before .args in
-    let d = c .before .before .before .before .before .before .before .before in
-    λ order ok. c .unassigned .ensures ∙ sym (to-nothing (a .rec) (a .states .now) (a .codes .now) (a .infos .now) order ok (smallAt d) (subAt d) (a .substitute) (a .s .now) (bytesAt d) (c .before .before .before .before .before .before .n .given .0 .0) (c .before .before .before .before .before .before .n .given .0 .1 .0) (c .before .before .before .before .pack .result) (sym (d .cut-one .ensures) ∙ c .before .before .before .before .before .before .n .given .1) (c .before .before .before .before .pack .ensures) (c .before .before .before .find-code .result) (c .before .before .before .find-code .ensures) (c .before .enum-told2 .given .1))
+    let a = c .before .before .before .before .before .before .before .before .before .before .before .before .before .before .before .before .args in
+    let d = c .before .before .before .before .before .before .before .before .before .before in
+    let k = c .before .before .before .before .before .before .before .before .n .given in
+    let p = c .before .before .before .before .before .before .pack in
+    let f = c .before .before .before .find-code-near in
+    λ order ok. c .unassigned .ensures ∙ sym (to-nothing (a .rec) (a .states .now) (a .codes .now) (a .infos .now) order ok (smallAt d) (subAt d) (a .substitute) (a .s .now) (bytesAt d) (k .0 .0) (k .0 .1 .0) (p .result) (sym (d .cut-one .ensures) ∙ k .1) (p .ensures) (f .result) (f .ensures) (c .before .enum-told2 .given .1))
 
 pub to-step-spec : {M : Type 1} → statement M
 to-step-spec =
@@ -93,8 +107,10 @@ to-step-spec =
     enum-known-halt-2
     enum-known-n
     pack-requires
-    cast-t18
-    find-code-requires
+    code-slot-requires
+    hint-at-requires
+    cast-t21
+    find-code-near-requires
     enum-known-info
     enum-told-2
     unassigned-requires

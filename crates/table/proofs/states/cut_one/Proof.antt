@@ -1,101 +1,62 @@
-use Prim.Native.Nat.{ℕ, _+_, _-_, _≤_}
-use mathlib.Core.Path.{_≡_, refl, sym, ap, _∙_}
-use native.Mathlib.Omega.{arith}
-use borrow.Author.Needs.{needs}
-use lib.ListN.{drop}
-use Rattle.table.specs.States.{stepAt, cutFrom}
+-- The first byte by one step of the definition (cut-here), the rest by cut_on.
+use Rattle.table.proofs.Cuts.{cut-here, cut-end}
 use Rattle.table.specs.declared.states.Step.the-variants.{Illegal, Ends, Leads}
-use Rattle.table.proofs.Cuts.{cut-here, cut-end, cut-none}
+use Rattle.table.specs.States.{stepAt}
+use native.Mathlib.Omega.{arith}
+use mathlib.Core.Path.{sym, _∙_}
+use borrow.Author.Needs.{needs}
 use Rattle.table.proofs.states.cut_one.Statement.{statement}
 use Rattle.table.proofs.states.cut_one.Tie as tie
 
-abbrev Inv-loop : tie.InvT-loop
-Inv-loop states row s at-row₀ at₀ at-row at = (cutFrom (stepAt states) (4 - at) at-row at (drop at s) ≡ cutFrom (stepAt states) 4 row 0 s) × (at ≤ 4)
-
-abbrev μ-loop : tie.MeasureT-loop
-μ-loop states row s at-row₀ at₀ at-row at = 4 - at
-
-loop-holds : tie.Need-loop-holds Inv-loop μ-loop
-loop-holds c = (refl, omega arith)
-
-returns : tie.Need-returns Inv-loop μ-loop
+returns : tie.Need-returns
 returns c =
-    let q = c .before .before .loop in
-    let a = c .before .before .before .before .before .args in
-    sym (cut-end (stepAt (a .states .now)) (4 - q .at) (q .at-row) (q .at) (a .s .now) (λ e. omega arith) (c .if1 .taken)) ∙ q .inv .0
+    let a = c .before .before .before .args in
+    sym (cut-end (stepAt (a .states .now)) 4 (a .row) 0 (a .s .now) (λ e. omega arith) (omega arith))
 
-shared-slice-read-step-at : tie.Need-shared-slice-read-step-at Inv-loop μ-loop
+shared-slice-read-step-at : tie.Need-shared-slice-read-step-at
 shared-slice-read-step-at c = search needs
 
-step-at-requires : tie.Need-step-at-requires Inv-loop μ-loop
+step-at-requires : tie.Need-step-at-requires
 step-at-requires c κs = search needs
 
-enum-told : tie.Need-enum-told Inv-loop μ-loop
+enum-told : tie.Need-enum-told
 enum-told c = search needs
 
-add-t14 : tie.Need-add-t14 Inv-loop μ-loop
-add-t14 c = search needs
-
-returns-2 : tie.Need-returns-2 Inv-loop μ-loop
-returns-2 c =
-    let q = c .before .before .before .before .before .before .loop in
-    let a = c .before .before .before .before .before .before .before .before .before .args in
-    sym (cut-here (stepAt (a .states .now)) (4 - q .at) (q .at-row) (q .at) (a .s .now) Illegal (λ e. omega arith) (omega arith) (sym (c .before .before .step-at .ensures) ∙ c .enum-told .given .1)) ∙ q .inv .0
-
-enum-known-e : tie.Need-enum-known-e Inv-loop μ-loop
+enum-known-e : tie.Need-enum-known-e
 enum-known-e c = search needs
 
-add-t16 : tie.Need-add-t16 Inv-loop μ-loop
-add-t16 c = search needs
-
-returns-3 : tie.Need-returns-3 Inv-loop μ-loop
-returns-3 c =
-    let q = c .before .before .before .before .before .before .before .loop in
-    let a = c .before .before .before .before .before .before .before .before .before .before .args in
-    sym (cut-here (stepAt (a .states .now)) (4 - q .at) (q .at-row) (q .at) (a .s .now) (Ends (c .before .e .given .0 .0)) (λ e. omega arith) (omega arith) (sym (c .before .before .before .step-at .ensures) ∙ c .before .e .given .1)) ∙ q .inv .0
-
-enum-known-n : tie.Need-enum-known-n Inv-loop μ-loop
+enum-known-n : tie.Need-enum-known-n
 enum-known-n c = search needs
 
-add-at : tie.Need-add-at Inv-loop μ-loop
-add-at c = search needs
+cut-on-requires : tie.Need-cut-on-requires
+cut-on-requires c κs = search needs
 
-loop-less : tie.Need-loop-less Inv-loop μ-loop
-loop-less c = search needs
+returns-2 : tie.Need-returns-2
+returns-2 c =
+    let a = c .before .before .before .before .before .before .before .args in
+    sym (cut-here (stepAt (a .states .now)) 4 (a .row) 0 (a .s .now) Illegal (λ e. omega arith) (omega arith) (sym (c .before .before .step-at .ensures) ∙ c .enum-told .given .1))
 
-loop-again : tie.Need-loop-again Inv-loop μ-loop
-loop-again c =
-    let q = c .before .before .before .before .before .before .before .loop in
-    let l = c .before .before .before .before .before .before .before .before .before .before .args .states .now in
-    let a = c .before .before .before .before .before .before .before .before .before .before .args in
-    let m : 4 - (q .at + 1) ≡ 4 - q .at - 1 = omega arith in
-    let h = cut-here (stepAt l) (4 - q .at) (q .at-row) (q .at) (a .s .now) (Leads (c .before .n .given .0 .0)) (λ e. omega arith) (omega arith) (sym (c .before .before .before .step-at .ensures) ∙ c .before .n .given .1) in
-    (ap (λ (f : ℕ). cutFrom (stepAt l) f (c .before .n .given .0 .0) (q .at + 1) (drop (q .at + 1) (a .s .now))) m ∙ sym h ∙ q .inv .0, omega arith)
+returns-3 : tie.Need-returns-3
+returns-3 c =
+    let a = c .before .before .before .before .before .before .before .before .args in
+    sym (cut-here (stepAt (a .states .now)) 4 (a .row) 0 (a .s .now) (Ends (c .before .e .given .0 .0)) (λ e. omega arith) (omega arith) (sym (c .before .before .before .step-at .ensures) ∙ c .before .e .given .1))
 
-returns-4 : tie.Need-returns-4 Inv-loop μ-loop
+returns-4 : tie.Need-returns-4
 returns-4 c =
-    let q = c .before .loop in
-    let a = c .before .before .before .before .args in
-    sym (cut-none (stepAt (a .states .now)) (4 - q .at) (q .at-row) (q .at) (drop (q .at) (a .s .now)) (omega arith)) ∙ q .inv .0
+    let a = c .before .before .before .before .before .before .before .before .before .args in
+    c .cut-on .ensures ∙ sym (cut-here (stepAt (a .states .now)) 4 (a .row) 0 (a .s .now) (Leads (c .before .before .n .given .0 .0)) (λ e. omega arith) (omega arith) (sym (c .before .before .before .before .step-at .ensures) ∙ c .before .before .n .given .1))
 
 pub cut-one-spec : {M : Type 1} → statement M
 cut-one-spec =
     tie.close
     (tie.spec
-    Inv-loop
-    μ-loop
-    loop-holds
     returns
     shared-slice-read-step-at
     step-at-requires
     enum-told
-    add-t14
-    returns-2
     enum-known-e
-    add-t16
-    returns-3
     enum-known-n
-    add-at
-    loop-less
-    loop-again
+    cut-on-requires
+    returns-2
+    returns-3
     returns-4)

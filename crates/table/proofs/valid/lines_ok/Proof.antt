@@ -1,3 +1,4 @@
+-- Invariant: the test of all entries is that of those from k on behind the last one. Measure: entries left.
 use Rattle.table.proofs.StoreLaws.{linesFrom, lines-none, lines-out, lines-start, lines-more, lines-fall, lines-break, lines-end}
 use borrow.Author.Tests.{not-true, not-false}
 use Rattle.table.specs.Valid.{lineOk}
@@ -23,7 +24,9 @@ abbrev μ-loop : tie.MeasureT-loop
 μ-loop steps rec codes infos c₀ i₀ k₀ c i k = length codes - k
 
 returns : tie.Need-returns Inv-loop μ-loop
-returns c = let a = c .before .before .before .before .args in lines-none (lineOk (stepAt (a .steps .now)) (a .rec)) (a .codes .now) (a .infos .now) (c .if1 .taken)
+returns c =
+    let a = c .before .before .before .before .args in
+    lines-none (lineOk (stepAt (a .steps .now)) (a .rec)) (a .codes .now) (a .infos .now) (c .if1 .taken)
 
 shared-slice-read-c : tie.Need-shared-slice-read-c Inv-loop μ-loop
 shared-slice-read-c c = search needs
@@ -31,14 +34,18 @@ shared-slice-read-c c = search needs
 shared-slice-read-i : tie.Need-shared-slice-read-i Inv-loop μ-loop
 shared-slice-read-i c = search needs
 
-line-ok-requires : tie.Need-line-ok-requires Inv-loop μ-loop
-line-ok-requires c κs = search needs
+rules-ok-requires : tie.Need-rules-ok-requires Inv-loop μ-loop
+rules-ok-requires c κs = search needs
 
 returns-2 : tie.Need-returns-2 Inv-loop μ-loop
-returns-2 c = let a = c .before .before .before .before .before .before .before .before .args in sym (lines-out (lineOk (stepAt (a .steps .now)) (a .rec)) (a .codes .now) (a .infos .now) (c .before .before .before .before .before .before .before .before .pre) (c .before .before .before .before .if1 .left) (sym (c .before .line-ok .ensures) ∙ not-true _ (c .if2 .taken)))
+returns-2 c =
+    let a = c .before .before .before .before .before .before .before .before .args in
+    sym (lines-out (lineOk (stepAt (a .steps .now)) (a .rec)) (a .codes .now) (a .infos .now) (c .before .before .before .before .before .before .before .before .pre) (c .before .before .before .before .if1 .left) (sym (c .before .rules-ok .ensures) ∙ not-true _ (c .if2 .taken)))
 
 loop-holds : tie.Need-loop-holds Inv-loop μ-loop
-loop-holds c = let a = c .before .before .before .before .before .before .before .before .args in (lines-start (lineOk (stepAt (a .steps .now)) (a .rec)) (a .codes .now) (a .infos .now) (c .before .before .before .before .before .before .before .before .pre) (c .before .before .before .before .if1 .left) (sym (c .before .line-ok .ensures) ∙ not-false _ (c .if2 .left)), omega arith)
+loop-holds c =
+    let a = c .before .before .before .before .before .before .before .before .args in
+    (lines-start (lineOk (stepAt (a .steps .now)) (a .rec)) (a .codes .now) (a .infos .now) (c .before .before .before .before .before .before .before .before .pre) (c .before .before .before .before .if1 .left) (sym (c .before .rules-ok .ensures) ∙ not-false _ (c .if2 .left)), omega arith)
 
 mul-d : tie.Need-mul-d Inv-loop μ-loop
 mul-d c = search needs
@@ -56,13 +63,19 @@ read-next-requires : tie.Need-read-next-requires Inv-loop μ-loop
 read-next-requires c κs = search needs
 
 returns-3 : tie.Need-returns-3 Inv-loop μ-loop
-returns-3 c = let a = c .before .before .before .before .before .before .before .before .before .before .before .before .before .before .args in let l = c .before .before .before .before .before .loop in sym (l .inv .0 ∙ lines-fall (lineOk (stepAt (a .steps .now)) (a .rec)) (a .codes .now) (a .infos .now) (c .before .before .before .before .before .before .before .before .before .before .before .before .before .before .pre) (mk (l .c) (l .i)) (l .k) (c .before .before .before .before .loop-test .taken) (sym (c .before .read-next .ensures) ∙ not-true _ (c .if3 .taken)))
+returns-3 c =
+    let a = c .before .before .before .before .before .before .before .before .before .before .before .before .before .before .args in
+    let l = c .before .before .before .before .before .loop in
+    sym (l .inv .0 ∙ lines-fall (lineOk (stepAt (a .steps .now)) (a .rec)) (a .codes .now) (a .infos .now) (c .before .before .before .before .before .before .before .before .before .before .before .before .before .before .pre) (mk (l .c) (l .i)) (l .k) (c .before .before .before .before .loop-test .taken) (sym (c .before .read-next .ensures) ∙ not-true _ (c .if3 .taken)))
 
-line-ok-requires-2 : tie.Need-line-ok-requires-2 Inv-loop μ-loop
-line-ok-requires-2 c κs = search needs
+line-ok-requires : tie.Need-line-ok-requires Inv-loop μ-loop
+line-ok-requires c κs = search needs
 
 returns-4 : tie.Need-returns-4 Inv-loop μ-loop
-returns-4 c = let a = c .before .before .before .before .before .before .before .before .before .before .before .before .before .before .before .before .args in let l = c .before .before .before .before .before .before .before .loop in sym (l .inv .0 ∙ lines-break (lineOk (stepAt (a .steps .now)) (a .rec)) (a .codes .now) (a .infos .now) (c .before .before .before .before .before .before .before .before .before .before .before .before .before .before .before .before .pre) (mk (l .c) (l .i)) (l .k) (c .before .before .before .before .before .before .loop-test .taken) (sym (c .before .line-ok2 .ensures) ∙ not-true _ (c .if4 .taken)))
+returns-4 c =
+    let a = c .before .before .before .before .before .before .before .before .before .before .before .before .before .before .before .before .args in
+    let l = c .before .before .before .before .before .before .before .loop in
+    sym (l .inv .0 ∙ lines-break (lineOk (stepAt (a .steps .now)) (a .rec)) (a .codes .now) (a .infos .now) (c .before .before .before .before .before .before .before .before .before .before .before .before .before .before .before .before .pre) (mk (l .c) (l .i)) (l .k) (c .before .before .before .before .before .before .loop-test .taken) (sym (c .before .line-ok .ensures) ∙ not-true _ (c .if4 .taken)))
 
 add-k : tie.Need-add-k Inv-loop μ-loop
 add-k c = search needs
@@ -71,10 +84,16 @@ loop-less : tie.Need-loop-less Inv-loop μ-loop
 loop-less c = search needs
 
 loop-again : tie.Need-loop-again Inv-loop μ-loop
-loop-again c = let a = c .before .before .before .before .before .before .before .before .before .before .before .before .before .before .before .before .args in let l = c .before .before .before .before .before .before .before .loop in (l .inv .0 ∙ lines-more (lineOk (stepAt (a .steps .now)) (a .rec)) (a .codes .now) (a .infos .now) (c .before .before .before .before .before .before .before .before .before .before .before .before .before .before .before .before .pre) (mk (l .c) (l .i)) (l .k) (c .before .before .before .before .before .before .loop-test .taken) (sym (c .before .before .before .read-next .ensures) ∙ not-false _ (c .before .before .if3 .left)) (sym (c .before .line-ok2 .ensures) ∙ not-false _ (c .if4 .left)), omega arith)
+loop-again c =
+    let a = c .before .before .before .before .before .before .before .before .before .before .before .before .before .before .before .before .args in
+    let l = c .before .before .before .before .before .before .before .loop in
+    (l .inv .0 ∙ lines-more (lineOk (stepAt (a .steps .now)) (a .rec)) (a .codes .now) (a .infos .now) (c .before .before .before .before .before .before .before .before .before .before .before .before .before .before .before .before .pre) (mk (l .c) (l .i)) (l .k) (c .before .before .before .before .before .before .loop-test .taken) (sym (c .before .before .before .read-next .ensures) ∙ not-false _ (c .before .before .if3 .left)) (sym (c .before .line-ok .ensures) ∙ not-false _ (c .if4 .left)), omega arith)
 
 returns-5 : tie.Need-returns-5 Inv-loop μ-loop
-returns-5 c = let a = c .before .before .before .before .before .before .before .before .before .before .args in let l = c .before .loop in sym (l .inv .0 ∙ lines-end (lineOk (stepAt (a .steps .now)) (a .rec)) (mk (l .c) (l .i)) (a .codes .now) (a .infos .now) (l .k) (c .loop-test .left))
+returns-5 c =
+    let a = c .before .before .before .before .before .before .before .before .before .before .args in
+    let l = c .before .loop in
+    sym (l .inv .0 ∙ lines-end (lineOk (stepAt (a .steps .now)) (a .rec)) (mk (l .c) (l .i)) (a .codes .now) (a .infos .now) (l .k) (c .loop-test .left))
 
 pub lines-ok-spec : {M : Type 1} → statement M
 lines-ok-spec =
@@ -85,7 +104,7 @@ lines-ok-spec =
     returns
     shared-slice-read-c
     shared-slice-read-i
-    line-ok-requires
+    rules-ok-requires
     returns-2
     loop-holds
     mul-d
@@ -94,7 +113,7 @@ lines-ok-spec =
     shared-slice-read-j
     read-next-requires
     returns-3
-    line-ok-requires-2
+    line-ok-requires
     returns-4
     add-k
     loop-less

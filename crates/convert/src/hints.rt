@@ -1,0 +1,72 @@
+// Hints: for a code or a code point the place of a stored line, where a look-up looks first. The line there is tested
+// before it is taken, so any number is right as a hint, and nothing is promised of those that are filled in here: a good
+// one only saves the search.
+ghost use mathlib.Core.Path.{_≡_};
+
+// The slots that hints stand in, each 16 bits: 32 KiB.
+pub(crate) const SLOTS: usize = 16384;
+
+// The same number, for sums of 32 bits.
+const SLOTS_32: u32 = 16384;
+
+// A stored code point stands below this, and its rank above.
+const RANK: u32 = 2097152;
+
+// A 16-bit number as a place.
+fn place_of(x: u16) -> usize
+    ensures { λ r. ⌜ r ≡ x ⌝ }
+{
+    x as usize
+}
+
+// The hint of a slot. Past the slots there is none: no table has a line at that place.
+pub(crate) fn hint_at(hints: &[u16], slot: usize) -> usize {
+    if slot < hints.len() {
+        return place_of(hints[slot]);
+    }
+    65535
+}
+
+// The slot of a code. No two codes of Shift-JIS share one: the first two bytes give it, and the first byte's top two
+// bits are added so that codes with the same bits below do not meet. Two more bytes are mixed in by a product.
+pub(crate) fn code_slot(bits: u32) -> usize {
+    ((bits / 65536 + bits / 1073741824 + bits % 65536 * 40503 / 16) % SLOTS_32) as usize
+}
+
+// The slot of a code point.
+pub(crate) fn point_slot(point: u32) -> usize {
+    ((point % RANK + point / SLOTS_32) % SLOTS_32) as usize
+}
+
+// The slot that a stored line's code point is filled in at; a `|3` line writes nothing and has none.
+fn written_slot(info: u32) -> usize {
+    if info / RANK % 8 == 1 {
+        return SLOTS;
+    }
+    point_slot(info % RANK)
+}
+
+// Fills in the places of all lines by their codes. From the last to the first: where several share a slot, the first
+// keeps it.
+pub(crate) fn fill_codes(codes: &[u32], hints: &mut [u16]) {
+    let mut k = codes.len();
+    while 0 < k {
+        k -= 1;
+        let slot = code_slot(codes[k]);
+        if slot < hints.len() {
+            hints[slot] = (k % 65536) as u16;
+        }
+    }
+}
+
+// The same by their code points.
+pub(crate) fn fill_points(infos: &[u32], hints: &mut [u16]) {
+    let mut k = infos.len();
+    while 0 < k {
+        k -= 1;
+        let slot = written_slot(infos[k]);
+        if slot < hints.len() {
+            hints[slot] = (k % 65536) as u16;
+        }
+    }
+}

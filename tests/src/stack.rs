@@ -1,0 +1,140 @@
+//! How much stack each C call takes, against what the header and docs/API.md
+//! say: the call runs on a painted stack of its own, and the lowest place that
+//! it wrote to tells.
+
+use crate::cases::{equal, junk, K};
+use crate::memory::Memory;
+use crate::raw::LINKED;
+use std::arch::asm;
+
+pub type StackCase = (&'static str, fn() -> Result<(), String>);
+
+pub const CASES: &[StackCase] = &[
+    ("load: at most 2 KiB of stack", load),
+    ("check: at most 2 KiB of stack", check),
+    ("to UTF-8: at most 36 KiB of stack", to_utf8),
+    ("from UTF-8: at most 36 KiB of stack", from_utf8),
+    ("audit: at most 3 KiB of stack", audit),
+];
+
+const KIB: usize = 1024;
+const SIZE: usize = 256 * KIB;
+const PAINT: u64 = 0x5c5c_5c5c_5c5c_5c5c;
+
+type Work<'a> = &'a mut dyn FnMut();
+
+extern "C" fn call(work: &mut Work) {
+    work();
+}
+
+/// The bytes of a painted stack that some work writes to.
+fn used(mut work: Work) -> usize {
+    let mut stack = vec![PAINT; SIZE / 8];
+    let top = (stack.as_mut_ptr() as usize + SIZE) & !15;
+    // SAFETY: the stack is as large as a thread's need be here, `call` keeps to
+    // the C calling convention, and r12 is kept by it; nothing unwinds.
+    unsafe {
+        asm!(
+            "mov r12, rsp",
+            "mov rsp, {top}",
+            "call {call}",
+            "mov rsp, r12",
+            top = in(reg) top,
+            call = sym call,
+            in("rdi") &mut work,
+            out("r12") _,
+            clobber_abi("C"),
+        );
+    }
+    let untouched = stack.iter().take_while(|&&word| word == PAINT).count();
+    SIZE - untouched * 8
+}
+
+fn at_most(what: &str, bound: usize, work: Work) -> Result<(), String> {
+    let bytes = used(work);
+    if std::env::var_os("OBOEPOND_STACK").is_some() {
+        println!("{what}: {bytes} bytes of stack");
+    }
+    match bytes <= bound {
+        true => Ok(()),
+        false => Err(format!("{what} took {bytes} bytes of stack, more than {bound}")),
+    }
+}
+
+/// A table whose codes have one to four bytes, so that the audit walks deep.
+fn deep() -> String {
+    let rows = "<icu:state> 0-7f, 80-ff:1\n<icu:state> 0-7f, 80-ff:2\n<icu:state> 0-7f, 80-ff:3\n<icu:state> 0-ff\n";
+    let head = "<code_set_name> \"d\"\n<mb_cur_min> 1\n<mb_cur_max> 4\n<uconv_class> \"MBCS\"\n<subchar> \\x3F\n";
+    let lines = "<U0041> \\x41\n<U0042> \\x80\\x42\n<U0043> \\x80\\x80\\x43\n<U0044> \\x80\\x80\\x80\\x44 |0\n";
+    format!("{head}{rows}CHARMAP\n{lines}END CHARMAP\n")
+}
+
+fn loaded(text: &[u8]) -> ([u32; 7], Memory) {
+    let (mut memory, mut result) = (junk(0), [0; 8]);
+    assert_eq!(LINKED.load(text, &mut memory, &mut result), 0, "the table is accepted");
+    (std::array::from_fn(|i| result[i + 1] as u32), memory)
+}
+
+fn load() -> Result<(), String> {
+    for text in [K.to_string(), deep(), "<icu:state> 0-ff:1, 80-\n".repeat(9), K.repeat(2)] {
+        let (mut memory, mut result) = (junk(0), [0; 8]);
+        at_most("load", 2 * KIB, &mut || {
+            LINKED.load(text.as_bytes(), &mut memory, &mut result);
+        })?;
+    }
+    Ok(())
+}
+
+/// The same work over K and over a table with codes of up to four bytes.
+fn over_tables(work: fn(&[u32; 7], &Memory) -> Result<(), String>) -> Result<(), String> {
+    for text in [K.to_string(), deep()] {
+        let (record, memory) = loaded(text.as_bytes());
+        work(&record, &memory)?;
+    }
+    Ok(())
+}
+
+fn check() -> Result<(), String> {
+    over_tables(|record, memory| {
+        let mut number = 1;
+        at_most("check", 2 * KIB, &mut || number = LINKED.check(record, memory))?;
+        equal("number", number, 0)
+    })
+}
+
+fn to_utf8() -> Result<(), String> {
+    over_tables(|record, memory| {
+        for n in [0, 1, 63, 64, 5000] {
+            let (input, mut output, mut result) = (vec![0x3f; n], vec![0; 4 * n], [0; 2]);
+            at_most("to UTF-8", 36 * KIB, &mut || {
+                LINKED.to_utf8(record, memory, &input, &mut output, 1, &mut result);
+            })?;
+            equal("read", result[0], n as u64)?;
+        }
+        Ok(())
+    })
+}
+
+fn from_utf8() -> Result<(), String> {
+    over_tables(|record, memory| {
+        for n in [0, 1, 63, 64, 5000] {
+            let (input, mut output, mut result) = (vec![0x43; n], vec![0; 4 * n], [0; 2]);
+            at_most("from UTF-8", 36 * KIB, &mut || {
+                LINKED.from_utf8(record, memory, &input, &mut output, 1, 1, &mut result);
+            })?;
+            equal("read", result[0], n as u64)?;
+        }
+        Ok(())
+    })
+}
+
+fn audit() -> Result<(), String> {
+    over_tables(|record, memory| {
+        let (mut entries, mut result) = (vec![0; 900], [0; 5]);
+        let mut number = 1;
+        at_most("audit", 3 * KIB, &mut || {
+            number = LINKED.audit(record, memory, 1, 0, 0, 900, &mut entries, &mut result);
+        })?;
+        equal("number", number, 0)
+    })
+}
