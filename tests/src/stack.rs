@@ -2,14 +2,13 @@
 //! say: the call runs on a painted stack of its own, and the lowest place that
 //! it wrote to tells.
 
+use crate::abi::AbiCase;
 use crate::cases::{equal, junk, K};
 use crate::memory::Memory;
 use crate::raw::LINKED;
 use std::arch::asm;
 
-pub type StackCase = (&'static str, fn() -> Result<(), String>);
-
-pub const CASES: &[StackCase] = &[
+pub const CASES: &[AbiCase] = &[
     ("load: at most 2 KiB of stack", load),
     ("check: at most 2 KiB of stack", check),
     ("to UTF-8: at most 36 KiB of stack", to_utf8),

@@ -46,25 +46,27 @@ fn written_slot(info: u32) -> usize {
     point_slot(info % RANK)
 }
 
-// Fills in the places of all lines by their codes. From the last to the first: where several share a slot, the first
-// keeps it.
-pub(crate) fn fill_codes(codes: &[u32], hints: &mut [u16]) {
-    let mut k = codes.len();
-    while 0 < k {
-        k -= 1;
-        let slot = code_slot(codes[k]);
-        if slot < hints.len() {
-            hints[slot] = (k % 65536) as u16;
-        }
+// Which of a stored line's two numbers a hint is found by.
+pub(crate) enum Key {
+    Code,
+    Point,
+}
+
+// The slot that a line's number is filled in at.
+fn filled_slot(key: Key, number: u32) -> usize {
+    match key {
+        Key::Code => code_slot(number),
+        Key::Point => written_slot(number),
     }
 }
 
-// The same by their code points.
-pub(crate) fn fill_points(infos: &[u32], hints: &mut [u16]) {
-    let mut k = infos.len();
+// Fills in the places of lines by their codes, or by their code points, from the last to the first: where several share
+// a slot, the first keeps it.
+pub(crate) fn fill(key: Key, numbers: &[u32], hints: &mut [u16]) {
+    let mut k = numbers.len();
     while 0 < k {
         k -= 1;
-        let slot = written_slot(infos[k]);
+        let slot = filled_slot(key, numbers[k]);
         if slot < hints.len() {
             hints[slot] = (k % 65536) as u16;
         }

@@ -357,7 +357,7 @@ fn to_hinted(
     }
     let n = rec.mappings as usize;
     let mut filled = [0u16; hints::SLOTS];
-    hints::fill_codes(&codes[..n], &mut filled);
+    hints::fill(hints::Key::Code, &codes[..n], &mut filled);
     to_run(
         rec,
         states,
@@ -462,7 +462,7 @@ fn from_hinted(
     }
     let n = rec.mappings as usize;
     let mut filled = [0u16; hints::SLOTS];
-    hints::fill_points(&infos[..n], &mut filled);
+    hints::fill(hints::Key::Point, &infos[..n], &mut filled);
     from_run(
         rec,
         states,

@@ -24,16 +24,16 @@ returns c = search needs
 cast-n : tie.Need-cast-n
 cast-n c = search needs
 
-slice-aggregate-fill-points : tie.Need-slice-aggregate-fill-points
-slice-aggregate-fill-points c =
+slice-aggregate-fill : tie.Need-slice-aggregate-fill
+slice-aggregate-fill c =
     let a = c .before .before .before .before .before .before .before .before .before .args in
     sym (length-take-le (a .rec .mappings) (a .infos .now) (lines-within (a .rec) (a .states .now) (a .codes .now) (a .infos .now) (a .order .now) (c .before .before .before .before .before .before .before .before .before .pre) .1))
 
-slice-aggregate-fill-points-2 : tie.Need-slice-aggregate-fill-points-2
-slice-aggregate-fill-points-2 c = search needs
+slice-aggregate-fill-2 : tie.Need-slice-aggregate-fill-2
+slice-aggregate-fill-2 c = search needs
 
-fill-points-requires : tie.Need-fill-points-requires
-fill-points-requires c κs = search needs
+fill-requires : tie.Need-fill-requires
+fill-requires c κs = search needs
 
 slice-aggregate-from-run-2 : tie.Need-slice-aggregate-from-run-2
 slice-aggregate-from-run-2 c = search needs
@@ -57,9 +57,9 @@ from-hinted-spec =
     same-length
     returns
     cast-n
-    slice-aggregate-fill-points
-    slice-aggregate-fill-points-2
-    fill-points-requires
+    slice-aggregate-fill
+    slice-aggregate-fill-2
+    fill-requires
     slice-aggregate-from-run-2
     from-run-requires-2
     same-length-2

@@ -24,16 +24,16 @@ returns c = search needs
 cast-n : tie.Need-cast-n
 cast-n c = search needs
 
-slice-aggregate-fill-codes : tie.Need-slice-aggregate-fill-codes
-slice-aggregate-fill-codes c =
+slice-aggregate-fill : tie.Need-slice-aggregate-fill
+slice-aggregate-fill c =
     let a = c .before .before .before .before .before .before .before .before .before .args in
     sym (length-take-le (a .rec .mappings) (a .codes .now) (lines-within (a .rec) (a .states .now) (a .codes .now) (a .infos .now) (a .order .now) (c .before .before .before .before .before .before .before .before .before .pre) .0))
 
-slice-aggregate-fill-codes-2 : tie.Need-slice-aggregate-fill-codes-2
-slice-aggregate-fill-codes-2 c = search needs
+slice-aggregate-fill-2 : tie.Need-slice-aggregate-fill-2
+slice-aggregate-fill-2 c = search needs
 
-fill-codes-requires : tie.Need-fill-codes-requires
-fill-codes-requires c κs = search needs
+fill-requires : tie.Need-fill-requires
+fill-requires c κs = search needs
 
 slice-aggregate-to-run-2 : tie.Need-slice-aggregate-to-run-2
 slice-aggregate-to-run-2 c = search needs
@@ -57,9 +57,9 @@ to-hinted-spec =
     same-length
     returns
     cast-n
-    slice-aggregate-fill-codes
-    slice-aggregate-fill-codes-2
-    fill-codes-requires
+    slice-aggregate-fill
+    slice-aggregate-fill-2
+    fill-requires
     slice-aggregate-to-run-2
     to-run-requires-2
     same-length-2

@@ -1,17 +1,16 @@
--- `fill_points` is safe and ends. The invariant: `k` is within the infos, and the hints keep their length. The measure: the
--- lines left.
+-- `fill` is safe and ends. Invariant: `k` is within the lines, and the hints keep their length. Measure: lines left.
 use Prim.Native.Nat.{_≤_}
 use mathlib.Core.Path.{_≡_}
 use lib.ListN.{length}
 use borrow.Author.Needs.{needs}
-use Rattle.convert.proofs.hints.fill_points.Statement.{statement}
-use Rattle.convert.proofs.hints.fill_points.Tie as tie
+use Rattle.convert.proofs.hints.fill.Statement.{statement}
+use Rattle.convert.proofs.hints.fill.Tie as tie
 
 abbrev Inv-loop : tie.InvT-loop
-Inv-loop infos hints₀ k₀ hints k = (k ≤ length infos) × (length hints ≡ length hints₀)
+Inv-loop key numbers hints₀ k₀ hints k = (k ≤ length numbers) × (length hints ≡ length hints₀)
 
 abbrev μ-loop : tie.MeasureT-loop
-μ-loop infos hints₀ k₀ hints k = k
+μ-loop key numbers hints₀ k₀ hints k = k
 
 loop-holds : tie.Need-loop-holds Inv-loop μ-loop
 loop-holds c = search needs
@@ -19,14 +18,14 @@ loop-holds c = search needs
 sub-k : tie.Need-sub-k Inv-loop μ-loop
 sub-k c = search needs
 
-mul-written-slot : tie.Need-mul-written-slot Inv-loop μ-loop
-mul-written-slot c = search needs
+mul-filled-slot : tie.Need-mul-filled-slot Inv-loop μ-loop
+mul-filled-slot c = search needs
 
-shared-slice-read-written-slot : tie.Need-shared-slice-read-written-slot Inv-loop μ-loop
-shared-slice-read-written-slot c = search needs
+shared-slice-read-filled-slot : tie.Need-shared-slice-read-filled-slot Inv-loop μ-loop
+shared-slice-read-filled-slot c = search needs
 
-written-slot-requires : tie.Need-written-slot-requires Inv-loop μ-loop
-written-slot-requires c κs = search needs
+filled-slot-requires : tie.Need-filled-slot-requires Inv-loop μ-loop
+filled-slot-requires c κs = search needs
 
 cast-hints : tie.Need-cast-hints Inv-loop μ-loop
 cast-hints c = search needs
@@ -55,17 +54,17 @@ same-length c = search needs
 returns : tie.Need-returns Inv-loop μ-loop
 returns c = search needs
 
-pub fill-points-spec : {M : Type 1} → statement M
-fill-points-spec =
+pub fill-spec : {M : Type 1} → statement M
+fill-spec =
     tie.close
     (tie.spec
     Inv-loop
     μ-loop
     loop-holds
     sub-k
-    mul-written-slot
-    shared-slice-read-written-slot
-    written-slot-requires
+    mul-filled-slot
+    shared-slice-read-filled-slot
+    filled-slot-requires
     cast-hints
     mul-hints
     slice-write-hints
