@@ -46,6 +46,7 @@ pack-end s n (suc i) h = absurd (omega arith)
 pub put-one : (out : List ℕ) (i k v : ℕ) → 0 < k → sets out i (unpacked k v) ≡ sets (set out i (v / 16777216)) (i + 1) (unpacked (k - 1) (v % 16777216 * 256))
 put-one out i k v h = rw (unpacked-more k v h, add-one i)
 
+-- two turns
 pub put-two : (out : List ℕ) (i k v : ℕ) → 1 < k → sets out i (unpacked k v)
     ≡ sets (set (set out i (v / 16777216)) (i + 1) (v % 16777216 * 256 / 16777216)) (i + 2) (unpacked (k - 2) (v % 16777216 * 256 % 16777216 * 256))
 put-two out i k v h =
