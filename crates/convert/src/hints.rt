@@ -6,8 +6,8 @@ ghost use mathlib.Core.Path.{_≡_};
 // The slots that hints stand in, each 16 bits: 32 KiB.
 pub(crate) const SLOTS: usize = 16384;
 
-// The same number, for sums of 32 bits.
-const SLOTS_32: u32 = 16384;
+// The same number in 32 bits.
+const SLOTS_32: u32 = SLOTS as u32;
 
 // A stored code point stands below this, and its rank above.
 const RANK: u32 = 2097152;

@@ -9,7 +9,7 @@ ghost use lib.ListN.{length, take, drop};
 ghost use Rattle.lists.specs.Order.{All, Rising, insert};
 ghost use Rattle.table.specs.Entry.{mk, bitsOf, infoOf, extraIn, keyIn, less, pointLess};
 ghost use Rattle.table.specs.Memory.{entries, orderOf};
-ghost use Rattle.table.specs.Search.{readOf, writeOf, placeIn, pointPlaceIn, picked, shiftIn, bump, readTaken, writeTaken, Ready, ReadsAt, WritesAt};
+ghost use Rattle.table.specs.Search.{readOf, writeOf, placeIn, pointPlaceIn, picked, shiftIn, bump, readTaken, writeTaken, Ready, LineAt, ReadsAt, WritesAt};
 ghost use Rattle.table.specs.Valid.{zeros, storeOk, Kept};
 
 // How often a search looks at an entry at most: enough for 4,095 of them.
@@ -213,9 +213,9 @@ pub fn find_point(codes: &[u32], infos: &[u32], order: &[u32], n: u32, point: u3
     Found::Hit(c, i)
 }
 
-// Whether the line at a place is there and reads a code.
-fn reads_at(codes: &[u32], infos: &[u32], n: u32, code: Code, at: usize) -> bool
-    ensures { λ r. ⌜ (r ≡ true → ReadsAt n (now (codes .entry)) (now (infos .entry)) (code .bits) (code .len) at) ⌝ }
+// Whether a place is one of the first n lines.
+fn line_at(codes: &[u32], infos: &[u32], n: u32, at: usize) -> bool
+    ensures { λ r. ⌜ (r ≡ true → LineAt n (now (codes .entry)) (now (infos .entry)) at) ⌝ }
 {
     if (n as usize) <= at {
         return false;
@@ -224,6 +224,16 @@ fn reads_at(codes: &[u32], infos: &[u32], n: u32, code: Code, at: usize) -> bool
         return false;
     }
     if infos.len() <= at {
+        return false;
+    }
+    true
+}
+
+// Whether the line at a place reads a code.
+fn reads_at(codes: &[u32], infos: &[u32], n: u32, code: Code, at: usize) -> bool
+    ensures { λ r. ⌜ (r ≡ true → ReadsAt n (now (codes .entry)) (now (infos .entry)) (code .bits) (code .len) at) ⌝ }
+{
+    if !line_at(codes, infos, n, at) {
         return false;
     }
     if codes[at] != code.bits {
@@ -249,17 +259,11 @@ pub fn find_code_near(codes: &[u32], infos: &[u32], n: u32, code: Code, at: usiz
     find_code(codes, infos, n, code)
 }
 
-// Whether the line at a place is there and says what becomes of a code point.
+// Whether the line at a place says what becomes of a code point.
 fn writes_at(codes: &[u32], infos: &[u32], n: u32, point: u32, at: usize) -> bool
     ensures { λ r. ⌜ (r ≡ true → WritesAt n (now (codes .entry)) (now (infos .entry)) point at) ⌝ }
 {
-    if (n as usize) <= at {
-        return false;
-    }
-    if codes.len() <= at {
-        return false;
-    }
-    if infos.len() <= at {
+    if !line_at(codes, infos, n, at) {
         return false;
     }
     let i = infos[at];
@@ -353,7 +357,8 @@ fn bump_index(at: u32, v: u32) -> u32
     if at <= v { v + 1 } else { v }
 }
 
-// Adds one to every index at or past a place, each by the same steps, so that many can be done at once; nothing to do where the place is behind all.
+// Adds one to every index at or past a place, without a branch, so that many can be done at once; nothing to do where
+// the place is behind all.
 fn renumber(order: &mut [u32], n: usize, at: usize)
     requires { ⌜ (n ≤ length (now order)) × (n < 4096) × All (λ k. k < n) (take n (now order)) ⌝ }
     ensures { λ _. ⌜ now (order .exit) ≡ map (bump at) (take n (now (order .entry))) ++ drop n (now (order .entry)) ⌝ }

@@ -10,16 +10,16 @@ reads-at-requires : tie.Need-reads-at-requires
 reads-at-requires c κs = search needs
 
 mul-t7 : tie.Need-mul-t7
-mul-t7 c = omega (arith, (c .before .reads-at .ensures (c .if1 .taken)) .in-codes)
+mul-t7 c = omega (arith, (c .before .reads-at .ensures (c .if1 .taken)) .place .in-codes)
 
 shared-slice-read-t9 : tie.Need-shared-slice-read-t9
-shared-slice-read-t9 c = omega (arith, (c .before .before .reads-at .ensures (c .before .if1 .taken)) .in-codes)
+shared-slice-read-t9 c = omega (arith, (c .before .before .reads-at .ensures (c .before .if1 .taken)) .place .in-codes)
 
 mul-t10 : tie.Need-mul-t10
-mul-t10 c = omega (arith, (c .before .before .reads-at .ensures (c .before .if1 .taken)) .in-infos)
+mul-t10 c = omega (arith, (c .before .before .reads-at .ensures (c .before .if1 .taken)) .place .in-infos)
 
 shared-slice-read-t12 : tie.Need-shared-slice-read-t12
-shared-slice-read-t12 c = omega (arith, (c .before .before .before .reads-at .ensures (c .before .before .if1 .taken)) .in-infos)
+shared-slice-read-t12 c = omega (arith, (c .before .before .before .reads-at .ensures (c .before .before .if1 .taken)) .place .in-infos)
 
 returns : tie.Need-returns
 returns c =
