@@ -264,13 +264,17 @@ read-next-same a b h p = read-next-if a b p ∙ rw (eq-eqb (a .bits) (b .bits) (
     go (inl q) = absurd (omega arith)
     go (inr q) = q .0
 
+pub point-is-less : (a b : Entry) → keyOf a < keyOf b → pointLess a b ≡ true
+unfolding pointLess
+point-is-less a b h = by-less keyOf less a b h
+
 -- a lower key decides alone: two lines that are written for one code point have one key
 pub key-next : (a b : Entry) → keyOf a < keyOf b → writeNext a b ≡ true
-unfolding writeNext pointLess
+unfolding writeNext
 key-next a b h = go (writeClash a b) refl
   where
-    go : (t : Bool) → writeClash a b ≡ t → pick (byKey keyOf less a b) (pick (writeClash a b) false true) false ≡ true
+    go : (t : Bool) → writeClash a b ≡ t → pick (pointLess a b) (pick (writeClash a b) false true) false ≡ true
     go true r =
         let w = clash-write a b r in
         absurd (omega (arith, h, key-writes a (w .left-writes), key-writes b (w .right-writes), w .same-point))
-    go false r = rw (by-less keyOf less a b h, r)
+    go false r = rw (point-is-less a b h, r)

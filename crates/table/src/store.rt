@@ -8,8 +8,8 @@ ghost use Prim.Native.Nat.{ℕ, _+_, _-_, _≤_, _<_};
 ghost use lib.ListN.{length, take, drop};
 ghost use Rattle.lists.specs.Order.{All, Rising, insert};
 ghost use Rattle.table.specs.Entry.{mk, bitsOf, infoOf, extraIn, keyIn, less, pointLess};
-ghost use Rattle.table.specs.Memory.{entries, orderOf};
-ghost use Rattle.table.specs.Search.{readOf, writeOf, placeIn, pointPlaceIn, picked, shiftIn, bump, readTaken, writeTaken, Ready, LineAt, ReadsAt, WritesAt};
+ghost use Rattle.table.specs.Memory.{entries, entryAt, orderOf};
+ghost use Rattle.table.specs.Search.{readsCode, writesPoint, readOf, writeOf, placeIn, pointPlaceIn, picked, shiftIn, bump, readTaken, writeTaken, Ready, LineAt};
 ghost use Rattle.table.specs.Valid.{zeros, storeOk, Kept};
 
 // How often a search looks at an entry at most: enough for 4,095 of them.
@@ -132,6 +132,32 @@ fn place_point(codes: &[u32], infos: &[u32], order: &[u32], c: u32, i: u32) -> u
     base
 }
 
+// Whether a stored line reads a code.
+fn reads_code(c: u32, i: u32, code: Code) -> bool
+    ensures { λ r. ⌜ (1 ≤ code .len → r ≡ readsCode (code .bits) (code .len - 1) (mk c i)) ⌝ }
+{
+    if c != code.bits {
+        return false;
+    }
+    if i / 16777216 + 1 != code.len {
+        return false;
+    }
+    i / 2097152 % 8 <= 1
+}
+
+// Whether a stored line, whose second number this is, says what becomes of a code point.
+fn writes_point(i: u32, point: u32) -> bool
+    ensures { λ r. ⌜ ((c : ℕ) → r ≡ writesPoint point (mk c i)) ⌝ }
+{
+    if i % 2097152 != point {
+        return false;
+    }
+    if i / 2097152 % 8 == 1 {
+        return false;
+    }
+    true
+}
+
 // The entry that reads a code. Of entries that do not rise, which no memory that passes the test behind 60 has,
 // the contract says nothing.
 pub fn find_code(codes: &[u32], infos: &[u32], n: u32, code: Code) -> Found
@@ -163,16 +189,10 @@ pub fn find_code(codes: &[u32], infos: &[u32], n: u32, code: Code) -> Found
     }
     let c = codes[at];
     let i = infos[at];
-    if c != code.bits {
-        return Found::Nothing;
+    if reads_code(c, i, code) {
+        return Found::Hit(c, i);
     }
-    if i / 16777216 != code.len - 1 {
-        return Found::Nothing;
-    }
-    if 1 < i / 2097152 % 8 {
-        return Found::Nothing;
-    }
-    Found::Hit(c, i)
+    Found::Nothing
 }
 
 // The entry that says what becomes of a code point. Of mappings that do not pass the test behind 60 the contract says
@@ -204,13 +224,10 @@ pub fn find_point(codes: &[u32], infos: &[u32], order: &[u32], n: u32, point: u3
     }
     let c = codes[k];
     let i = infos[k];
-    if i % 2097152 != point {
-        return Found::Nothing;
+    if writes_point(i, point) {
+        return Found::Hit(c, i);
     }
-    if i / 2097152 % 8 == 1 {
-        return Found::Nothing;
-    }
-    Found::Hit(c, i)
+    Found::Nothing
 }
 
 // Whether a place is one of the first n lines.
@@ -231,19 +248,13 @@ fn line_at(codes: &[u32], infos: &[u32], n: u32, at: usize) -> bool
 
 // Whether the line at a place reads a code.
 fn reads_at(codes: &[u32], infos: &[u32], n: u32, code: Code, at: usize) -> bool
-    ensures { λ r. ⌜ (r ≡ true → ReadsAt n (now (codes .entry)) (now (infos .entry)) (code .bits) (code .len) at) ⌝ }
+    ensures { λ r. ⌜ (r ≡ true → LineAt n (now (codes .entry)) (now (infos .entry)) at
+        × (1 ≤ code .len → readsCode (code .bits) (code .len - 1) (entryAt (now (codes .entry)) (now (infos .entry)) at) ≡ true)) ⌝ }
 {
     if !line_at(codes, infos, n, at) {
         return false;
     }
-    if codes[at] != code.bits {
-        return false;
-    }
-    let i = infos[at];
-    if i / 16777216 + 1 != code.len {
-        return false;
-    }
-    i / 2097152 % 8 <= 1
+    reads_code(codes[at], infos[at], code)
 }
 
 // The same as `find_code`, with one look at a place before the search: a line there that reads the code is the only one.
@@ -261,19 +272,13 @@ pub fn find_code_near(codes: &[u32], infos: &[u32], n: u32, code: Code, at: usiz
 
 // Whether the line at a place says what becomes of a code point.
 fn writes_at(codes: &[u32], infos: &[u32], n: u32, point: u32, at: usize) -> bool
-    ensures { λ r. ⌜ (r ≡ true → WritesAt n (now (codes .entry)) (now (infos .entry)) point at) ⌝ }
+    ensures { λ r. ⌜ (r ≡ true → LineAt n (now (codes .entry)) (now (infos .entry)) at
+        × (writesPoint point (entryAt (now (codes .entry)) (now (infos .entry)) at) ≡ true)) ⌝ }
 {
     if !line_at(codes, infos, n, at) {
         return false;
     }
-    let i = infos[at];
-    if i % 2097152 != point {
-        return false;
-    }
-    if i / 2097152 % 8 == 1 {
-        return false;
-    }
-    true
+    writes_point(infos[at], point)
 }
 
 // The same as `find_point`, with one look at a place of the first order before the search.
