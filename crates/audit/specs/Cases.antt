@@ -1,54 +1,18 @@
 -- The starred cases of document 01: table K from its own text, and a table of questions with their answers.
 use Prim.Native.Nat.{ℕ}
-use Prim.Native.String.{String}
-use Prim.Native.String
-use Prim.Native.Char.{code}
 use mathlib.Core.Path.{_≡_}
 use mathlib.Core.Bool.{Bool, true, false}
-use mathlib.Core.Option.{none}
 use mathlib.Core.List.{List, [], _∷_, map}
-use lib.ListN.{length, set, replicate}
+use lib.ListN.{length}
 use Rattle.table.specs.Limits.{limits}
 use Rattle.table.specs.Codes.{codeOf, bytesOf}
-use Rattle.table.specs.Meaning.{Line, Table}
+use Rattle.table.specs.Meaning.{Table}
 use Rattle.table.specs.Load.{accepted, loadOf}
+use Rattle.table.specs.TableK.{kText, tableK}
 use Rattle.convert.specs.Run.{Run, haltNumber}
 use Rattle.convert.specs.Step.{utf8}
 use Rattle.convert.specs.Convert.{toRun, fromRun}
 use Rattle.audit.specs.Audit.{Finding, Answer, numberOf, completeCodes, plainList, auditOn}
-
-unfoldable pub bytes : String → List ℕ
-bytes String.[] = []
-bytes (String._∷_ c s) = code c ∷ bytes s
-
--- table K
-unfoldable pub kText : List ℕ
-kText = bytes "<code_set_name> \"kettle-1\"\n<mb_cur_min> 1\n<mb_cur_max> 2\n<uconv_class> \"MBCS\"\n<subchar> \\x3F\n<icu:state> 2d, 30, 33, 3f, 81:1\n<icu:state> 7c-7d, 80.u\nCHARMAP\n<U002D> \\x2D |0\n<U0030> \\x30 |0\n<U0033> \\x33 |0\n<U2212> \\x81\\x7C |0\n<UFF0D> \\x81\\x7C |1\n<U2212> \\x81\\x7D |3\nEND CHARMAP\n"
-
-abbrev line : ℕ → List ℕ → ℕ → Line
-line u c d = record { point = u; code = c; indicator = d }
-
--- what K means: in row 0 the bytes 2d, 30, 33 and 3f end a code and 81 leads on to row 1, where 7c and 7d end it, and 80 as unassigned
-unfoldable pub tableK : Table
-tableK =
-    record {
-      rows =
-          set (set (set (set (set (replicate 256 0) 0x2d 1) 0x30 1) 0x33 1) 0x3f 1) 0x81 17
-          ∷ set (set (set (replicate 256 0) 0x7c 1) 0x7d 1) 0x80 3
-          ∷ [];
-      lines =
-          line 0x2212 (0x81 ∷ 0x7d ∷ []) 3
-          ∷ line 0xff0d (0x81 ∷ 0x7c ∷ []) 1
-          ∷ line 0x2212 (0x81 ∷ 0x7c ∷ []) 0
-          ∷ line 0x33 (0x33 ∷ []) 0
-          ∷ line 0x30 (0x30 ∷ []) 0
-          ∷ line 0x2d (0x2d ∷ []) 0
-          ∷ [];
-      min = 1;
-      max = 2;
-      subchar = 0x3f ∷ [];
-      subchar1 = none;
-    }
 
 -- strict or substitute, fallback off or on
 abbrev strict : Bool
@@ -131,6 +95,6 @@ cases =
 abbrev pub Hold : Table → List Case → Type 0
 Hold t l = map (λ c. ask t (c .question)) l ≡ map (λ c. c .reply) l
 
--- THE STARRED CASES: K's text is accepted as the table above, and each case holds of it
+-- THE STARRED CASES: K's text is accepted as table K, and each case holds of it
 abbrev pub Starred : Type 0
 Starred = (loadOf limits kText ≡ accepted tableK) × Hold tableK cases

@@ -1,4 +1,5 @@
 pub mod Pick
+pub mod Ascii
 pub mod Order
 pub mod Place
 pub mod Between

@@ -1,7 +1,7 @@
--- A text is accepted exactly when it is of the grammar and its rows and lines keep T1 to T9.
+-- A text is accepted exactly when the reader, asked for the grammar alone, gives a table that keeps T1 to T9.
+-- That these texts are just those of specs/Grammar.antt, and so `accepted-exactly`, is in TextRead.antt.
 use Prim.Native.Nat.{ℕ, _+_, _≤_}
 use mathlib.Core.Path.{_≡_, refl, sym, ap, subst, _∙_}
-use mathlib.Core.Logic.{_↔_}
 use mathlib.Core.List.{List, [], _∷_}
 use native.Mathlib.Omega.{arith}
 use Rattle.table.specs.Limits.{Limits}
@@ -55,7 +55,7 @@ accepted-sound : (lim : Limits) (text : List ℕ) (t : Table) → loadOf lim tex
 unfolding loadOf
 accepted-sound lim text t e = accepted-go lim t (linesOf text) 0 start (start-fits lim) e
 
--- AN ACCEPTED TEXT KEEPS THE RULES, where the limits allow a row at all
+-- an accepted text keeps the rules, where the limits allow a row at all
 pub accepted-keeps-rules : (lim : Limits) (text : List ℕ) (t : Table) → 1 ≤ lim .rows → loadOf lim text ≡ accepted t → Keeps lim t
 accepted-keeps-rules lim text t one e = accepted-sound lim text t e .1 one
 
@@ -63,7 +63,7 @@ accepted-keeps-rules lim text t one e = accepted-sound lim text t e .1 one
 pub accepted-proper : (lim : Limits) (text : List ℕ) (t : Table) → loadOf lim text ≡ accepted t → Proper t
 accepted-proper lim text t e = accepted-sound lim text t e .0
 
--- it is of the grammar
+-- the reader, asked for the grammar alone, gives the same table
 form-go : (lim : Limits) (t : Table) (ls : List (List ℕ)) (k : ℕ) (r : Reading) → loadGo lowest lim k ls (went r) ≡ accepted t → loadGo inForm lim k ls (went r) ≡ accepted t
 unfolding loadGo
 form-go lim t [] k r e = e
@@ -99,14 +99,7 @@ kept-go lim t (l ∷ ls) k r h e = go (stepOf inForm lim r l) refl (λ q. kept-g
         let b = step-kept lim r l s p (w .1) in
         (ap (loadGo lowest lim (k + 1) ls) (b .0) ∙ w .0, b .1)
 
--- A TEXT OF THE GRAMMAR WHOSE ROWS AND LINES KEEP THE RULES IS ACCEPTED
+-- a text that is read as a table which keeps the rules is accepted
 pub kept-rules-accepted : (lim : Limits) (text : List ℕ) (t : Table) → readOf lim text ≡ accepted t → Keeps lim t → loadOf lim text ≡ accepted t
 unfolding loadOf readOf
 kept-rules-accepted lim text t e h = kept-go lim t (linesOf text) 0 start h e .0
-
--- EXACTLY WHEN
-pub accepted-exactly : (lim : Limits) (text : List ℕ) (t : Table) → 1 ≤ lim .rows → (loadOf lim text ≡ accepted t) ↔ ((readOf lim text ≡ accepted t) × Keeps lim t)
-accepted-exactly lim text t one = (
-  λ e. (accepted-in-grammar lim text t e, accepted-keeps-rules lim text t one e),
-  λ p. kept-rules-accepted lim text t (p .0) (p .1),
-)

@@ -70,7 +70,7 @@ abbrev pub Keeping : Limits → Reading → Type 0
 Keeping lim r = KeptAt lim (r .phase) (r .head) (r .rows) (r .lines)
 
 -- the conditions of a header line are all of the grammar
-key-form : (lim : Limits) (h : Head) (k : Key) (v : Value) → inForm (keyConditions lim h k v) ≡ lowest (keyConditions lim h k v)
+pub key-form : (lim : Limits) (h : Head) (k : Key) (v : Value) → inForm (keyConditions lim h k v) ≡ lowest (keyConditions lim h k v)
 unfolding inForm lowest keyConditions
 key-form lim h k v = refl
 

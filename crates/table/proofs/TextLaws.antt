@@ -78,7 +78,7 @@ byte-forth s at =
     P : Num → Type 0
     P n = Forth 256 (at + 1) n
 
-digit-most : (b : ℕ) → digitOf b ≤ 16
+pub digit-most : (b : ℕ) → digitOf b ≤ 16
 unfolding digitOf
 digit-most b =
     pick-case P (ltb b 48) _ _ (λ _. omega arith)

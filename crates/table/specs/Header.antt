@@ -1,4 +1,5 @@
--- A line before CHARMAP, by form alone: it knows no number and nothing that came before.
+-- A line before CHARMAP as the loader reads it, by form alone: it knows no number and nothing that came before.
+-- Which byte strings are header lines, with which values, Grammar.antt says.
 use Prim.Native.Nat.{ℕ, _+_, _-_, _/_, _<_, _≤_}
 use mathlib.Core.Path.{_≡_}
 use mathlib.Core.List.{List, [], _∷_}

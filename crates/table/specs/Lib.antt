@@ -15,6 +15,8 @@ pub mod Mapping
 pub mod Numbers
 pub mod Load
 pub mod FirstLine
+pub mod Grammar
+pub mod TableK
 pub mod Progress
 pub mod CutShort
 pub mod LeadMarks

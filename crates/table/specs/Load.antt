@@ -160,7 +160,8 @@ start = reading Header emptyHead [] []
 unfoldable pub loadOf : Limits → List ℕ → Outcome
 loadOf lim text = loadGo lowest lim 0 (linesOf text) (went start)
 
--- a text of the grammar: no number from 10 to 15 and no 27 holds; its rows and lines, whatever rules they break
+-- the reader asked for the grammar alone: no number from 10 to 15 and no 27 holds; rows and lines, whatever rules they break.
+-- Which texts are read so: `TableText` of Grammar.antt (proofs/TextRead.antt)
 unfoldable pub readOf : Limits → List ℕ → Outcome
 readOf lim text = loadGo inForm lim 0 (linesOf text) (went start)
 

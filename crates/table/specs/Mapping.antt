@@ -1,4 +1,5 @@
--- A line behind CHARMAP, by form alone: `<U..>`, one or more bytes, an indicator. It knows no number and nothing that came before.
+-- A line behind CHARMAP as the loader reads it, by form alone: `<U..>`, one or more bytes, an indicator. It knows no number and nothing that came before.
+-- Which byte strings are mapping lines, Grammar.antt says.
 use Prim.Native.Nat.{ℕ, zero, suc, _+_, _-_, _<_, _≤_}
 use mathlib.Core.List.{List, [], _∷_}
 use mathlib.Core.Bool.{Bool, true, false}

@@ -1,4 +1,5 @@
--- The lines of a text, and the tokens of a line: blanks, words, quotes, comments, bytes, code points.
+-- The lines of a text, and the tokens of a line, as the loader reads them: blanks, words, quotes, comments, bytes, code points.
+-- Which byte strings they are, Grammar.antt says.
 use Prim.Native.Nat.{ℕ, zero, suc, _+_, _*_, _-_, _<_, _≤_}
 use mathlib.Core.List.{List, [], _∷_}
 use mathlib.Core.Bool.{Bool, true, false}

@@ -1,0 +1,510 @@
+-- The numbers that the grammar decides: 10, 12, 14 and 15 hold at a line exactly where the grammar says so.
+-- ten-exactly, twelve-exactly, fourteen-exactly, fifteen-exactly: of the conditions at a line, given any reading before it
+use Prim.Native.Nat.{ℕ, _+_, _-_, _<_, _≤_}
+use mathlib.Core.Path.{_≡_, refl, sym, ap, _∙_, subst}
+use mathlib.Core.Logic.{_⊎_, inl, inr, _↔_}
+use mathlib.Core.Bool.{Bool, true, false}
+use mathlib.Core.List.{List, [], _∷_, _++_}
+use native.Mathlib.Omega.{arith}
+use lib.ListN.{length}
+use lib.Dec.{ltb, eqb}
+use borrow.Author.Tests.{ltb-true, lt-ltb, leb-true, le-leb, eqb-true}
+use Rattle.lists.specs.Pick.{pick}
+use Rattle.lists.specs.Order.{All, In}
+use Rattle.lists.specs.Ascii.{ascii}
+use Rattle.lists.proofs.Laws.{clash}
+use Rattle.table.specs.Limits.{Limits}
+use Rattle.table.specs.Codes.{packed}
+use Rattle.table.specs.Meaning.{Line, same}
+use Rattle.table.specs.Rules.{anyOf}
+use Rattle.table.specs.Row.{columnsOf, laterColumn, overColumn}
+use Rattle.table.specs.Header.{keyOf, className, valueOf, lineOf}
+use Rattle.table.specs.Mapping.{Form, noForm, reserved, blank, ending, mapping, mappedOf, lastOf}
+use Rattle.table.specs.Numbers.{Cond, cond, numberOf, n11, n12, n14, n15, rowLater, rowOver, keyConditions, charmapConditions, mappingConditions}
+use Rattle.table.specs.Load.{Reading, lineAs}
+use Rattle.table.specs.FirstLine.{headerConditions, mappedConditions, lastConditions, phaseConditions, conditionsAt}
+use Rattle.table.specs.Grammar.{CharmapLine, AnyMapping, LaterMapping, Pair, Quoted, RowValue, keyText, classes, N10, Keyed, Fit, N12, LaterPair, N14, N15}
+use Rattle.table.specs.declared.header.Key.{Key}
+use Rattle.table.specs.declared.header.Key.the-variants.{CodeSetName, CurMin, CurMax, ConvClass, SubChar, SubChar1, State, Base, Other}
+use Rattle.table.specs.declared.header.Value.{Value}
+use Rattle.table.specs.declared.header.Value.the-variants.{Unfit, Any, Name, Min, Max, Class, Sub, Sub1, Row, Later}
+use Rattle.table.specs.declared.header.Head.{Head}
+use Rattle.table.specs.declared.header.Line.{Line as HeaderLine}
+use Rattle.table.specs.declared.header.Line.the-variants as header
+use Rattle.table.specs.declared.load.Refusal.{Refusal}
+use Rattle.table.specs.declared.load.Refusal.the-variants as refusal
+use Rattle.table.specs.declared.load.Phase.{Phase}
+use Rattle.table.specs.declared.load.Phase.the-variants.{Header, Mappings, Ended}
+use Rattle.table.proofs.SeriesRead.{several}
+use Rattle.table.proofs.MappingRead.{formOf, any-mapping-reads, later-mapping-reads}
+use Rattle.table.proofs.RowRead.{row-reads}
+use Rattle.table.proofs.RowWritten.{row-cases}
+use Rattle.table.proofs.HeaderRead.{LineMeans, line-written, key-line-reads, blank-line-reads, charmap-line-reads}
+use Rattle.table.proofs.ValueRead.{name-reads, name-cases, min-reads, min-cases, max-reads, max-cases, class-reads, class-cases, sub-reads, sub-cases, sub1-reads, sub1-cases}
+use Rattle.table.proofs.FormsRead.{FormMeans, form-written, blank-body, charmap-body, end-body, LastMeans, last-written, blank-last, charmap-last}
+use Rattle.table.proofs.KeysHeld.{pair, KeyMeans, key-means}
+
+-- ## Conditions of one refusal
+
+-- none of these is about refusal x
+abbrev NotOf : Refusal → List Cond → Type 0
+NotOf x cs = All (λ c. numberOf x ≡ numberOf (c .refusal) → ⊥) cs
+
+not-in : (x : Refusal) (cs : List Cond) → NotOf x cs → In (cond x true) cs → ⊥
+not-in x [] a i = i
+not-in x (c ∷ cs) a (inl e) = a .0 (ap (λ (y : Cond). numberOf (y .refusal)) e)
+not-in x (c ∷ cs) a (inr i) = not-in x cs (a .1) i
+
+-- the one condition about x, among others
+in-exactly : (x : Refusal) (b : Bool) (before after : List Cond) → NotOf x before → NotOf x after → In (cond x true) (before ++ (cond x b ∷ after)) ↔ (b ≡ true)
+in-exactly x b [] after u v = (there, λ e. inl (ap (cond x) (sym e)))
+  where
+    there : In (cond x true) (cond x b ∷ after) → b ≡ true
+    there (inl e) = sym (ap (λ (y : Cond). y .holds) e)
+    there (inr i) = absurd (not-in x after v i)
+in-exactly x b (c ∷ before) after u v = (there (in-exactly x b before after (u .1) v .0), λ e. inr (in-exactly x b before after (u .1) v .1 e))
+  where
+    there : (In (cond x true) (before ++ (cond x b ∷ after)) → b ≡ true) → In (cond x true) (c ∷ (before ++ (cond x b ∷ after))) → b ≡ true
+    there ih (inl e) = absurd (u .0 (ap (λ (y : Cond). numberOf (y .refusal)) e))
+    there ih (inr i) = ih i
+
+module _ (lim : Limits) (h : Head) (k : Key) (v : Value) where
+  in-unfit : In (cond refusal.UnfitValue true) (keyConditions lim h k v) ↔ (n12 v ≡ true)
+  unfolding keyConditions
+  in-unfit =
+      in-exactly refusal.UnfitValue (n12 v) (cond refusal.KeyAgain (n11 h k) ∷ []) (cond refusal.NotBuilt (n14 (h .rows) v) ∷ cond refusal.OutOfRange (n15 lim (h .rows) v) ∷ [])
+      (λ e. omega arith, tt) (λ e. omega arith, (λ e. omega arith, tt))
+
+  in-later : In (cond refusal.NotBuilt true) (keyConditions lim h k v) ↔ (n14 (h .rows) v ≡ true)
+  unfolding keyConditions
+  in-later =
+      in-exactly refusal.NotBuilt (n14 (h .rows) v) (cond refusal.KeyAgain (n11 h k) ∷ cond refusal.UnfitValue (n12 v) ∷ []) (cond refusal.OutOfRange (n15 lim (h .rows) v) ∷ [])
+      (λ e. omega arith, (λ e. omega arith, tt)) (λ e. omega arith, tt)
+
+  in-over : In (cond refusal.OutOfRange true) (keyConditions lim h k v) ↔ (n15 lim (h .rows) v ≡ true)
+  unfolding keyConditions
+  in-over =
+      in-exactly refusal.OutOfRange (n15 lim (h .rows) v) (cond refusal.KeyAgain (n11 h k) ∷ cond refusal.UnfitValue (n12 v) ∷ cond refusal.NotBuilt (n14 (h .rows) v) ∷ []) []
+      (λ e. omega arith, (λ e. omega arith, (λ e. omega arith, tt))) tt
+
+  not-key : NotOf refusal.NoForm (keyConditions lim h k v)
+  unfolding keyConditions
+  not-key = (λ e. omega arith, (λ e. omega arith, (λ e. omega arith, (λ e. omega arith, tt))))
+
+-- ## A key's value
+
+-- a test that fails for every class fails for the class of each word
+class-test : (f : Value → Bool) → f (Class 1) ≡ false → f (Class 2) ≡ false → f Later ≡ false → (w : List ℕ) → In w classes → f (className w) ≡ false
+unfolding className same
+class-test f a b c w (inl i) = ap (λ (x : List ℕ). f (className x)) i ∙ a
+class-test f a b c w (inr (inl i)) = ap (λ (x : List ℕ). f (className x)) i ∙ b
+class-test f a b c w (inr (inr (inl i))) = ap (λ (x : List ℕ). f (className x)) i ∙ c
+class-test f a b c w (inr (inr (inr (inl i)))) = ap (λ (x : List ℕ). f (className x)) i ∙ c
+class-test f a b c w (inr (inr (inr (inr i)))) = absurd i
+
+-- a value that has its form is not unfit
+fit-reads : (k : Key) (v : List ℕ) → Fit k v → n12 (valueOf k v) ≡ false
+unfolding n12 valueOf
+fit-reads CodeSetName v f = ap n12 (name-reads v f)
+fit-reads CurMin v (d, f) = ap n12 (min-reads d v f)
+fit-reads CurMax v (d, f) = ap n12 (max-reads d v f)
+fit-reads ConvClass v (w, q, i) = ap n12 (class-reads w v q) ∙ class-test n12 refl refl refl w i
+fit-reads SubChar v (c, f) = ap n12 (sub-reads c v f)
+fit-reads SubChar1 v (b, f) = ap n12 (sub1-reads b v f)
+fit-reads State v (k, es, f) = ap n12 (row-reads k es v f .1)
+fit-reads Base v f = refl
+fit-reads Other v f = refl
+
+-- and every value is unfit, or has its form
+else-by : {A B C : Type 0} → A ⊎ B → (B → C) → A ⊎ C
+else-by (inl a) f = inl a
+else-by (inr b) f = inr (f b)
+
+fit-cases : (k : Key) (v : List ℕ) → (valueOf k v ≡ Unfit) ⊎ Fit k v
+fit-cases CodeSetName v = else-by (name-cases v) (λ x. x .1)
+fit-cases CurMin v = else-by (min-cases v) (λ x. (x .0, x .2))
+fit-cases CurMax v = else-by (max-cases v) (λ x. (x .0, x .2))
+fit-cases ConvClass v = else-by (class-cases v) (λ x. (x .0, x .1, x .3))
+fit-cases SubChar v = else-by (sub-cases v) (λ x. (x .0, x .2))
+fit-cases SubChar1 v = else-by (sub1-cases v) (λ x. (x .0, x .2))
+fit-cases State v = else-by (row-cases v) (λ x. (x .0, columnsOf v, x .4))
+fit-cases Base v = inr tt
+fit-cases Other v = inr tt
+
+-- the word of each key is read as that key
+key-read : (k : Key) → keyOf (keyText k) ≡ k
+unfolding keyOf same
+key-read CodeSetName = refl
+key-read CurMin = refl
+key-read CurMax = refl
+key-read ConvClass = refl
+key-read SubChar = refl
+key-read SubChar1 = refl
+key-read State = refl
+key-read Base = refl
+key-read Other = refl
+
+known-other : (k : Key) → k ≡ Other → 1 ≤ length (keyText k) → ⊥
+known-other k e one = let z : length (keyText k) ≡ 0 = ap (λ (x : Key). length (keyText x)) e in omega arith
+
+key-known : (w : List ℕ) (k : Key) → KeyMeans w k → (w ≡ keyText k) ⊎ (k ≡ Other)
+key-known w CodeSetName m = inl m
+key-known w CurMin m = inl m
+key-known w CurMax m = inl m
+key-known w ConvClass m = inl m
+key-known w SubChar m = inl m
+key-known w SubChar1 m = inl m
+key-known w State m = inl m
+key-known w Base m = inl m
+key-known w Other m = inr refl
+
+-- rows under 14 and 15
+later-row : (n k : ℕ) (l : Bool) → rowLater n k l ≡ true → (k ≡ 2) ⊎ (((k ≡ 1) × (1 ≤ n)) ⊎ (l ≡ true))
+unfolding rowLater
+later-row n k true e = inr (inr refl)
+later-row n k false e = by-two (eqb k 2) refl (eqb k 1) refl e
+  where
+    by-two : (x : Bool) → eqb k 2 ≡ x → (y : Bool) → eqb k 1 ≡ y → pick x true (pick y (ltb 0 n) false) ≡ true → (k ≡ 2) ⊎ (((k ≡ 1) × (1 ≤ n)) ⊎ (false ≡ true))
+    by-two true p y q h = inl (eqb-true k 2 p)
+    by-two false p true q h = inr (inl (eqb-true k 1 q, ltb-true 0 n h))
+    by-two false p false q h = absurd (clash h refl)
+
+row-later : (n k : ℕ) (l : Bool) → (k ≡ 2) ⊎ (((k ≡ 1) × (1 ≤ n)) ⊎ (l ≡ true)) → rowLater n k l ≡ true
+unfolding rowLater
+row-later n k true c = refl
+row-later n k false (inl e) = rw e
+row-later n k false (inr (inl (e, one))) = rw (e, lt-ltb 0 n one)
+row-later n k false (inr (inr e)) = absurd (clash e refl)
+
+over-row : (lim : Limits) (n : ℕ) (o : Bool) → rowOver lim n o ≡ true → (o ≡ true) ⊎ (lim .rows ≤ n)
+unfolding rowOver
+over-row lim n true e = inl refl
+over-row lim n false e = inr (leb-true (lim .rows) n e)
+
+row-over : (lim : Limits) (n : ℕ) (o : Bool) → (o ≡ true) ⊎ (lim .rows ≤ n) → rowOver lim n o ≡ true
+unfolding rowOver
+row-over lim n true c = refl
+row-over lim n false (inl e) = absurd (clash e refl)
+row-over lim n false (inr h) = le-leb (lim .rows) n h
+
+-- a test that fails for values of all keys but three
+record Silent (f : Value → Bool) : Type 0 where
+  unfit : f Unfit ≡ false
+  any : f Any ≡ false
+  name : f Name ≡ false
+  min : (d : ℕ) → f (Min d) ≡ false
+  max : (d : ℕ) → f (Max d) ≡ false
+  sub : (b n : ℕ) → f (Sub b n) ≡ false
+  sub1 : (b : ℕ) → f (Sub1 b) ≡ false
+
+never : {A B : Type 0} (f : Value → Bool) (x : Value) → f Unfit ≡ false → (x ≡ Unfit) ⊎ B → (B → f x ≡ false) → f x ≡ true → A
+never f x z (inl u) g e = absurd (clash e (ap f u ∙ z))
+never f x z (inr b) g e = absurd (clash e (g b))
+
+speaks : (f : Value → Bool) → Silent f → (k : Key) (v : List ℕ) → f (valueOf k v) ≡ true → (k ≡ ConvClass) ⊎ ((k ≡ State) ⊎ (k ≡ Base))
+unfolding valueOf
+speaks f q CodeSetName v e = never f (valueOf CodeSetName v) (q .unfit) (name-cases v) (λ b. ap f (b .0) ∙ q .name) e
+speaks f q CurMin v e = never f (valueOf CurMin v) (q .unfit) (min-cases v) (λ b. ap f (b .1) ∙ q .min (b .0)) e
+speaks f q CurMax v e = never f (valueOf CurMax v) (q .unfit) (max-cases v) (λ b. ap f (b .1) ∙ q .max (b .0)) e
+speaks f q ConvClass v e = inl refl
+speaks f q SubChar v e = never f (valueOf SubChar v) (q .unfit) (sub-cases v) (λ b. ap f (b .1) ∙ q .sub (packed (b .0)) (length (b .0))) e
+speaks f q SubChar1 v e = never f (valueOf SubChar1 v) (q .unfit) (sub1-cases v) (λ b. ap f (b .1) ∙ q .sub1 (b .0)) e
+speaks f q State v e = inr (inl refl)
+speaks f q Base v e = inr (inr refl)
+speaks f q Other v e = absurd (clash e (q .any))
+
+module _ (w v : List ℕ) where
+  abbrev read : Value
+  read = valueOf (keyOf w) v
+
+  -- by its word, what is read of a key
+  read-as : (k : Key) → w ≡ keyText k → read ≡ valueOf k v
+  read-as k m = ap (λ (x : Key). valueOf x v) (ap keyOf m ∙ key-read k)
+
+  -- 12
+  twelve-pair : (n12 read ≡ true) ↔ N12 (pair w v)
+  unfolding n12 valueOf
+  twelve-pair = (λ e. by-key (key-known w (keyOf w) (key-means w)) e, back)
+    where
+      by-key : (w ≡ keyText (keyOf w)) ⊎ (keyOf w ≡ Other) → n12 (valueOf (keyOf w) v) ≡ true → N12 (pair w v)
+      by-key (inl m) e = (keyOf w, m, λ f. clash e (fit-reads (keyOf w) v f))
+      by-key (inr m) e = absurd (clash e (ap (λ (k : Key). n12 (valueOf k v)) m))
+
+      unfit : (k : Key) → (Fit k v → ⊥) → (valueOf k v ≡ Unfit) ⊎ Fit k v → n12 (valueOf k v) ≡ true
+      unfit k n (inl u) = ap n12 u
+      unfit k n (inr f) = absurd (n f)
+
+      back : N12 (pair w v) → n12 (valueOf (keyOf w) v) ≡ true
+      back (k, m, n) = ap n12 (read-as k m) ∙ unfit k n (fit-cases k v)
+
+  -- a key that is not ignored is read as its word
+  word-of : (k : Key) → (k ≡ Other → ⊥) → keyOf w ≡ k → w ≡ keyText k
+  word-of k n e = by-known (key-known w (keyOf w) (key-means w))
+    where
+      by-known : (w ≡ keyText (keyOf w)) ⊎ (keyOf w ≡ Other) → w ≡ keyText k
+      by-known (inl m) = m ∙ ap keyText e
+      by-known (inr m) = absurd (n (sym e ∙ m))
+
+  -- a row's value, if it is read as one
+  abbrev RowRead : Type 0
+  RowRead =
+      (valueOf State v ≡ Unfit)
+      ⊎ ((k : ℕ) × (l : Bool) × (o : Bool) × (valueOf State v ≡ Row k l o) × RowValue k (columnsOf v) v × (l ≡ anyOf laterColumn (columnsOf v)) × (o ≡ anyOf overColumn (columnsOf v)))
+
+  -- 14, with n rows before it
+  fourteen-pair : (n : ℕ) → (n14 n read ≡ true) ↔ LaterPair n (pair w v)
+  unfolding n14 valueOf className same
+  fourteen-pair n = (λ e. by-key (speaks (n14 n) silent (keyOf w) v e) e, back)
+    where
+      silent : Silent (n14 n)
+      silent = record { unfit = refl; any = refl; name = refl; min = λ d. refl; max = λ d. refl; sub = λ b m. refl; sub1 = λ b. refl }
+
+      by-word : w ≡ keyText ConvClass → (x : List ℕ) → Quoted x v → n14 n (className x) ≡ true → In x classes → LaterPair n (pair w v)
+      by-word m x q e (inl i) = absurd (clash e (ap (λ (y : List ℕ). n14 n (className y)) i))
+      by-word m x q e (inr (inl i)) = absurd (clash e (ap (λ (y : List ℕ). n14 n (className y)) i))
+      by-word m x q e (inr (inr (inl i))) = inr (inl (m, inl (subst (λ (y : List ℕ). Quoted y v) i q)))
+      by-word m x q e (inr (inr (inr (inl i)))) = inr (inl (m, inr (subst (λ (y : List ℕ). Quoted y v) i q)))
+      by-word m x q e (inr (inr (inr (inr i)))) = absurd i
+
+      by-class : w ≡ keyText ConvClass → (valueOf ConvClass v ≡ Unfit) ⊎ ((x : List ℕ) × Quoted x v × (valueOf ConvClass v ≡ className x) × In x classes)
+          → n14 n (valueOf ConvClass v) ≡ true → LaterPair n (pair w v)
+      by-class m (inl u) e = absurd (clash e (ap (n14 n) u))
+      by-class m (inr (x, q, c, i)) e = by-word m x q (sym (ap (n14 n) c) ∙ e) i
+
+      by-row : w ≡ keyText State → RowRead → n14 n (valueOf State v) ≡ true → LaterPair n (pair w v)
+      by-row m (inl u) e = absurd (clash e (ap (n14 n) u))
+      by-row m (inr (k, l, o, c, f, x, y)) e =
+          let z : rowLater n k (anyOf laterColumn (columnsOf v)) ≡ true = ap (rowLater n k) (sym x) ∙ sym (ap (n14 n) c) ∙ e in
+          inr (inr (m, (k, columnsOf v, f, later-row n k (anyOf laterColumn (columnsOf v)) z)))
+
+      by-key : (keyOf w ≡ ConvClass) ⊎ ((keyOf w ≡ State) ⊎ (keyOf w ≡ Base)) → n14 n (valueOf (keyOf w) v) ≡ true → LaterPair n (pair w v)
+      by-key (inl k) e = by-class (word-of ConvClass (λ z. known-other ConvClass z (omega arith)) k) (class-cases v) (sym (ap (λ (x : Key). n14 n (valueOf x v)) k) ∙ e)
+      by-key (inr (inl k)) e = by-row (word-of State (λ z. known-other State z (omega arith)) k) (row-cases v) (sym (ap (λ (x : Key). n14 n (valueOf x v)) k) ∙ e)
+      by-key (inr (inr k)) e = inl (word-of Base (λ z. known-other Base z (omega arith)) k)
+
+      back : LaterPair n (pair w v) → n14 n (valueOf (keyOf w) v) ≡ true
+      back (inl m) = ap (n14 n) (read-as Base m)
+      back (inr (inl (m, inl q))) = ap (n14 n) (read-as ConvClass m ∙ class-reads (ascii "DBCS") v q)
+      back (inr (inl (m, inr q))) = ap (n14 n) (read-as ConvClass m ∙ class-reads (ascii "EBCDIC_STATEFUL") v q)
+      back (inr (inr (m, (k, es, f, c)))) = ap (n14 n) (read-as State m ∙ row-reads k es v f .1) ∙ row-later n k (anyOf laterColumn es) c
+
+  -- 15
+  fifteen-pair : (lim : Limits) (n : ℕ) → (n15 lim n read ≡ true) ↔ N15 (lim .rows) n (pair w v)
+  unfolding n15 valueOf
+  fifteen-pair lim n = (λ e. by-key (speaks (n15 lim n) silent (keyOf w) v e) e, back)
+    where
+      silent : Silent (n15 lim n)
+      silent = record { unfit = refl; any = refl; name = refl; min = λ d. refl; max = λ d. refl; sub = λ b m. refl; sub1 = λ b. refl }
+
+      by-row : w ≡ keyText State → RowRead → n15 lim n (valueOf State v) ≡ true → N15 (lim .rows) n (pair w v)
+      by-row m (inl u) e = absurd (clash e (ap (n15 lim n) u))
+      by-row m (inr (k, l, o, c, f, x, y)) e =
+          let z : rowOver lim n (anyOf overColumn (columnsOf v)) ≡ true = ap (rowOver lim n) (sym y) ∙ sym (ap (n15 lim n) c) ∙ e in
+          (m, (k, columnsOf v, f, over-row lim n (anyOf overColumn (columnsOf v)) z))
+
+      by-key : (keyOf w ≡ ConvClass) ⊎ ((keyOf w ≡ State) ⊎ (keyOf w ≡ Base)) → n15 lim n (valueOf (keyOf w) v) ≡ true → N15 (lim .rows) n (pair w v)
+      by-key (inl k) e =
+          never (n15 lim n) (valueOf ConvClass v) refl (class-cases v) (λ b. ap (n15 lim n) (b .2) ∙ class-test (n15 lim n) refl refl refl (b .0) (b .3))
+          (sym (ap (λ (x : Key). n15 lim n (valueOf x v)) k) ∙ e)
+      by-key (inr (inl k)) e = by-row (word-of State (λ z. known-other State z (omega arith)) k) (row-cases v) (sym (ap (λ (x : Key). n15 lim n (valueOf x v)) k) ∙ e)
+      by-key (inr (inr k)) e = absurd (clash e (ap (λ (x : Key). n15 lim n (valueOf x v)) k))
+
+      back : N15 (lim .rows) n (pair w v) → n15 lim n (valueOf (keyOf w) v) ≡ true
+      back (m, (k, es, f, c)) = ap (n15 lim n) (read-as State m ∙ row-reads k es v f .1) ∙ row-over lim n (anyOf overColumn es) c
+
+-- ## A line before CHARMAP
+
+module _ (lim : Limits) (h : Head) (rows : List (List ℕ)) where
+  -- a number of a key's value, at the line
+  keyed-exactly : (x : Refusal) (f : Value → Bool) (P : Pair → Type 0) → ((k : Key) (v : Value) → In (cond x true) (keyConditions lim h k v) ↔ (f v ≡ true))
+      → ((w v : List ℕ) → (f (valueOf (keyOf w) v) ≡ true) ↔ P (pair w v)) → NotOf x (cond refusal.NoForm true ∷ []) → NotOf x (charmapConditions h rows) → (s : List ℕ)
+      → In (cond x true) (headerConditions lim h rows (lineOf s)) ↔ Keyed P Header s
+  keyed-exactly x f P at is no-form no-charmap s = (there (lineOf s) (line-written s), back)
+    where
+      there : (y : HeaderLine) → LineMeans s y → In (cond x true) (headerConditions lim h rows y) → Keyed P Header s
+      there header.NoForm m i = absurd (not-in x (cond refusal.NoForm true ∷ []) no-form i)
+      there header.Blank m i = absurd i
+      there header.Charmap m i = absurd (not-in x (charmapConditions h rows) no-charmap i)
+      there (header.Known k v q e) (p, line, key, value, part) i =
+          (p, line, is (p .key) (p .value) .0 (ap (λ (z : Key). f (valueOf z (p .value))) (sym key) ∙ ap f (sym value) ∙ at k v .0 i))
+
+      back : Keyed P Header s → In (cond x true) (headerConditions lim h rows (lineOf s))
+      back (p, line, c) =
+          let told = key-line-reads p s line in
+          subst (λ (y : HeaderLine). In (cond x true) (headerConditions lim h rows y)) (sym (told .line))
+          (at (keyOf (p .key)) (valueOf (keyOf (p .key)) (p .value)) .1 (is (p .key) (p .value) .1 c))
+
+  -- 10
+  header-ten : (s : List ℕ) → In (cond refusal.NoForm true) (headerConditions lim h rows (lineOf s)) ↔ N10 Header s
+  unfolding charmapConditions
+  header-ten s = (there (lineOf s) refl, back (lineOf s) (line-written s))
+    where
+      there : (y : HeaderLine) → lineOf s ≡ y → In (cond refusal.NoForm true) (headerConditions lim h rows y) → N10 Header s
+      there header.NoForm e i = (
+        λ b. (let k : header.NoForm ≡ header.Blank = sym e ∙ blank-line-reads s b in let z : _≡_ {A = ℕ} 0 1 = cc in omega arith),
+        λ c. (let k : header.NoForm ≡ header.Charmap = sym e ∙ charmap-line-reads s c in let z : _≡_ {A = ℕ} 0 1 = cc in omega arith),
+        λ p l. (let told = key-line-reads p s l in
+            let k : header.NoForm ≡ header.Known (keyOf (p .key)) (valueOf (keyOf (p .key)) (p .value)) (told .from) (told .to) = sym e ∙ told .line in
+            let z : _≡_ {A = ℕ} 0 1 = cc in omega arith),
+      )
+      there header.Blank e i = absurd i
+      there header.Charmap e i = absurd (not-in refusal.NoForm (charmapConditions h rows) (λ z. omega arith, (λ z. omega arith, tt)) i)
+      there (header.Known k v q z) e i = absurd (not-in refusal.NoForm (keyConditions lim h k v) (not-key lim h k v) i)
+
+      back : (y : HeaderLine) → LineMeans s y → N10 Header s → In (cond refusal.NoForm true) (headerConditions lim h rows y)
+      back header.NoForm m n = inl refl
+      back header.Blank m n = absurd (n .0 m)
+      back header.Charmap m n = absurd (n .1 m)
+      back (header.Known k v q e) m n = absurd (n .2 (m .0) (m .1))
+
+-- ## A line between CHARMAP and END CHARMAP
+
+no-form-mapped : (us c : List ℕ) (joined plus : Bool) (d : ℕ) (s : List ℕ) → AnyMapping us c joined plus d s → noForm ≡ formOf us c plus d → ⊥
+no-form-mapped [] c joined plus d s m e = m .points
+no-form-mapped (u ∷ us) c joined plus d s m e = by-form (pick (eqb (several 0 us) 1) true plus) (eqb d 4) e
+  where
+    by-form : (x y : Bool) → noForm ≡ pick x reserved (pick y reserved (mapping u c d)) → ⊥
+    by-form true y k = let z : _≡_ {A = ℕ} 0 1 = cc in omega arith
+    by-form false true k = let z : _≡_ {A = ℕ} 0 1 = cc in omega arith
+    by-form false false k = let z : _≡_ {A = ℕ} 0 1 = cc in omega arith
+
+module _ (lim : Limits) (h : Head) (rows : List (List ℕ)) (ls : List Line) where
+  not-mapped : (x : Refusal) → numberOf x < 20 → (l : Line) → NotOf x (mappingConditions lim h rows ls l)
+  unfolding mappingConditions
+  not-mapped x n l =
+      (λ e. omega arith, (λ e. omega arith, (λ e. omega arith, (λ e. omega arith, (λ e. omega arith, (λ e. omega arith, (λ e. omega arith, tt)))))))
+
+  body-ten : (s : List ℕ) → In (cond refusal.NoForm true) (mappedConditions lim h rows ls (mappedOf s)) ↔ N10 Mappings s
+  body-ten s = (there (mappedOf s) refl, back (mappedOf s) (form-written s))
+    where
+      there : (f : Form) → mappedOf s ≡ f → In (cond refusal.NoForm true) (mappedConditions lim h rows ls f) → N10 Mappings s
+      there noForm e i = (
+        λ b. (let k : noForm ≡ blank = sym e ∙ blank-body s b in let z : _≡_ {A = ℕ} 0 1 = cc in omega arith),
+        λ c. (let k : noForm ≡ reserved = sym e ∙ charmap-body s c in let z : _≡_ {A = ℕ} 0 1 = cc in omega arith),
+        λ c. (let k : noForm ≡ ending = sym e ∙ end-body s c in let z : _≡_ {A = ℕ} 0 1 = cc in omega arith),
+        λ us c joined plus d m. no-form-mapped us c joined plus d s m (sym e ∙ any-mapping-reads us c joined plus d s m),
+      )
+      there reserved e i = absurd (not-in refusal.NoForm (cond refusal.NotBuilt true ∷ []) (λ z. omega arith, tt) i)
+      there blank e i = absurd i
+      there ending e i = absurd i
+      there (mapping u c d) e i = absurd (not-in refusal.NoForm (mappingConditions lim h rows ls (lineAs u c d)) (not-mapped refusal.NoForm (omega arith) (lineAs u c d)) i)
+
+      back : (f : Form) → FormMeans s f → N10 Mappings s → In (cond refusal.NoForm true) (mappedConditions lim h rows ls f)
+      back noForm m n = inl refl
+      back reserved (inl m) n = absurd (n .1 m)
+      back reserved (inr (us, c, joined, plus, d, m, z)) n = absurd (n .3 us c joined plus d m)
+      back blank m n = absurd (n .0 m)
+      back ending m n = absurd (n .2 m)
+      back (mapping u c d) (z, m) n = absurd (n .3 (u ∷ []) c false false d m)
+
+  body-fourteen : (s : List ℕ) → In (cond refusal.NotBuilt true) (mappedConditions lim h rows ls (mappedOf s)) ↔ (CharmapLine s ⊎ LaterMapping s)
+  body-fourteen s = (there (mappedOf s) (form-written s), back)
+    where
+      there : (f : Form) → FormMeans s f → In (cond refusal.NotBuilt true) (mappedConditions lim h rows ls f) → CharmapLine s ⊎ LaterMapping s
+      there noForm m i = absurd (not-in refusal.NotBuilt (cond refusal.NoForm true ∷ []) (λ z. omega arith, tt) i)
+      there reserved m i = m
+      there blank m i = absurd i
+      there ending m i = absurd i
+      there (mapping u c d) m i = absurd (not-in refusal.NotBuilt (mappingConditions lim h rows ls (lineAs u c d)) (not-mapped refusal.NotBuilt (omega arith) (lineAs u c d)) i)
+
+      reserved-in : mappedOf s ≡ reserved → In (cond refusal.NotBuilt true) (mappedConditions lim h rows ls (mappedOf s))
+      reserved-in e = subst (λ (f : Form). In (cond refusal.NotBuilt true) (mappedConditions lim h rows ls f)) (sym e) (inl refl)
+
+      back : CharmapLine s ⊎ LaterMapping s → In (cond refusal.NotBuilt true) (mappedConditions lim h rows ls (mappedOf s))
+      back (inl c) = reserved-in (charmap-body s c)
+      back (inr m) = reserved-in (later-mapping-reads s m)
+
+  -- a refusal of header lines alone
+  body-none : (x : Refusal) → NotOf x (cond refusal.NoForm true ∷ []) → NotOf x (cond refusal.NotBuilt true ∷ []) → numberOf x < 20 → (f : Form)
+      → In (cond x true) (mappedConditions lim h rows ls f) → ⊥
+  body-none x a b n noForm i = not-in x (cond refusal.NoForm true ∷ []) a i
+  body-none x a b n reserved i = not-in x (cond refusal.NotBuilt true ∷ []) b i
+  body-none x a b n blank i = i
+  body-none x a b n ending i = i
+  body-none x a b n (mapping u c d) i = not-in x (mappingConditions lim h rows ls (lineAs u c d)) (not-mapped x n (lineAs u c d)) i
+
+-- ## A line behind END CHARMAP
+
+last-ten : (s : List ℕ) → In (cond refusal.NoForm true) (lastConditions (lastOf s)) ↔ N10 Ended s
+last-ten s = (λ i. there (lastOf s) refl (last-written s) i, back (lastOf s) (last-written s))
+  where
+    there : (f : Form) → lastOf s ≡ f → LastMeans s f → In (cond refusal.NoForm true) (lastConditions f) → N10 Ended s
+    there noForm e m i = (
+      λ b. (let k : noForm ≡ blank = sym e ∙ blank-last s b in let z : _≡_ {A = ℕ} 0 1 = cc in omega arith),
+      λ c. (let k : noForm ≡ reserved = sym e ∙ charmap-last s c in let z : _≡_ {A = ℕ} 0 1 = cc in omega arith),
+    )
+    there reserved e m i = absurd (not-in refusal.NoForm (cond refusal.NotBuilt true ∷ []) (λ z. omega arith, tt) i)
+    there blank e m i = absurd i
+    there ending e m i = absurd m
+    there (mapping u c d) e m i = absurd m
+
+    back : (f : Form) → LastMeans s f → N10 Ended s → In (cond refusal.NoForm true) (lastConditions f)
+    back noForm m n = inl refl
+    back reserved m n = absurd (n .1 m)
+    back blank m n = absurd (n .0 m)
+    back ending m n = absurd m
+    back (mapping u c d) m n = absurd m
+
+last-fourteen : (s : List ℕ) → In (cond refusal.NotBuilt true) (lastConditions (lastOf s)) ↔ CharmapLine s
+last-fourteen s = (there (lastOf s) (last-written s), λ c. subst (λ (f : Form). In (cond refusal.NotBuilt true) (lastConditions f)) (sym (charmap-last s c)) (inl refl))
+  where
+    there : (f : Form) → LastMeans s f → In (cond refusal.NotBuilt true) (lastConditions f) → CharmapLine s
+    there noForm m i = absurd (not-in refusal.NotBuilt (cond refusal.NoForm true ∷ []) (λ z. omega arith, tt) i)
+    there reserved m i = m
+    there blank m i = absurd i
+    there ending m i = absurd m
+    there (mapping u c d) m i = absurd m
+
+last-none : (x : Refusal) → NotOf x (cond refusal.NoForm true ∷ []) → NotOf x (cond refusal.NotBuilt true ∷ []) → (f : Form) → In (cond x true) (lastConditions f) → ⊥
+last-none x a b noForm i = not-in x (cond refusal.NoForm true ∷ []) a i
+last-none x a b reserved i = not-in x (cond refusal.NotBuilt true ∷ []) b i
+last-none x a b blank i = i
+last-none x a b ending i = not-in x (cond refusal.NoForm true ∷ []) a i
+last-none x a b (mapping u c d) i = not-in x (cond refusal.NoForm true ∷ []) a i
+
+-- ## Any line, given what was read before it
+
+module _ (lim : Limits) (h : Head) (rows : List (List ℕ)) (ls : List Line) (s : List ℕ) where
+  ten-at : (p : Phase) → In (cond refusal.NoForm true) (phaseConditions lim p h rows ls s) ↔ N10 p s
+  ten-at Header = header-ten lim h rows s
+  ten-at Mappings = body-ten lim h rows ls s
+  ten-at Ended = last-ten s
+
+  twelve-at : (p : Phase) → In (cond refusal.UnfitValue true) (phaseConditions lim p h rows ls s) ↔ Keyed N12 p s
+  unfolding charmapConditions
+  twelve-at Header =
+      keyed-exactly lim h rows refusal.UnfitValue n12 N12 (in-unfit lim h) twelve-pair (λ e. omega arith, tt) (λ e. omega arith, (λ e. omega arith, tt)) s
+  twelve-at Mappings = (body-none lim h rows ls refusal.UnfitValue (λ e. omega arith, tt) (λ e. omega arith, tt) (omega arith) (mappedOf s), λ x. absurd x)
+  twelve-at Ended = (last-none refusal.UnfitValue (λ e. omega arith, tt) (λ e. omega arith, tt) (lastOf s), λ x. absurd x)
+
+  fourteen-at : (p : Phase) → In (cond refusal.NotBuilt true) (phaseConditions lim p h rows ls s) ↔ N14 p (h .rows) s
+  unfolding charmapConditions
+  fourteen-at Header =
+      keyed-exactly lim h rows refusal.NotBuilt (n14 (h .rows)) (LaterPair (h .rows)) (in-later lim h) (λ w v. fourteen-pair w v (h .rows))
+      (λ e. omega arith, tt) (λ e. omega arith, (λ e. omega arith, tt)) s
+  fourteen-at Mappings = body-fourteen lim h rows ls s
+  fourteen-at Ended = last-fourteen s
+
+  fifteen-at : (p : Phase) → In (cond refusal.OutOfRange true) (phaseConditions lim p h rows ls s) ↔ Keyed (N15 (lim .rows) (h .rows)) p s
+  unfolding charmapConditions
+  fifteen-at Header =
+      keyed-exactly lim h rows refusal.OutOfRange (n15 lim (h .rows)) (N15 (lim .rows) (h .rows)) (in-over lim h) (λ w v. fifteen-pair w v lim (h .rows))
+      (λ e. omega arith, tt) (λ e. omega arith, (λ e. omega arith, tt)) s
+  fifteen-at Mappings = (body-none lim h rows ls refusal.OutOfRange (λ e. omega arith, tt) (λ e. omega arith, tt) (omega arith) (mappedOf s), λ x. absurd x)
+  fifteen-at Ended = (last-none refusal.OutOfRange (λ e. omega arith, tt) (λ e. omega arith, tt) (lastOf s), λ x. absurd x)
+
+module _ (lim : Limits) (r : Reading) (s : List ℕ) where
+  -- 10 IS 'OF NO FORM'
+  pub ten-exactly : In (cond refusal.NoForm true) (conditionsAt lim r s) ↔ N10 (r .phase) s
+  ten-exactly = ten-at lim (r .head) (r .rows) (r .lines) s (r .phase)
+
+  -- 12 is a known key whose value has not its form
+  pub twelve-exactly : In (cond refusal.UnfitValue true) (conditionsAt lim r s) ↔ Keyed N12 (r .phase) s
+  twelve-exactly = twelve-at lim (r .head) (r .rows) (r .lines) s (r .phase)
+
+  -- 14 and 15 are the forms that they name
+  pub fourteen-exactly : In (cond refusal.NotBuilt true) (conditionsAt lim r s) ↔ N14 (r .phase) (r .head .rows) s
+  fourteen-exactly = fourteen-at lim (r .head) (r .rows) (r .lines) s (r .phase)
+
+  pub fifteen-exactly : In (cond refusal.OutOfRange true) (conditionsAt lim r s) ↔ Keyed (N15 (lim .rows) (r .head .rows)) (r .phase) s
+  fifteen-exactly = fifteen-at lim (r .head) (r .rows) (r .lines) s (r .phase)

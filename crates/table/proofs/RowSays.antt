@@ -1,0 +1,102 @@
+-- What the entries of a row say of a byte: the last one that names it decides, and a byte not named is illegal.
+use Prim.Native.Nat.{ℕ, zero, suc, _+_, _-_, _<_, _≤_}
+use mathlib.Core.Path.{_≡_, refl, sym, ap, _∙_, subst}
+use mathlib.Core.Logic.{_⊎_, inl, inr}
+use mathlib.Core.Bool.{Bool, true, false}
+use mathlib.Core.List.{List, [], _∷_, _++_}
+use native.Mathlib.Omega.{arith}
+use lib.ListN.{length, getD, set, replicate, getD-replicate, length-replicate, length-set}
+use lib.Seq.{getD-set-same, getD-set-other}
+use lib.Dec.{leb}
+use borrow.Author.Tests.{leb-true, leb-false}
+use Rattle.lists.specs.Order.{All}
+use Rattle.lists.proofs.Order.{all-map}
+use Rattle.table.specs.Row.{columnsOf, meaning, spread, painted, rowOf}
+use Rattle.table.specs.Grammar.{RowValue, Names, RowSays}
+use Rattle.table.specs.declared.header.Column.{Column}
+use Rattle.table.proofs.RowText.{Bounded, columns-bounded, spread-step, spread-end, painted-length}
+use Rattle.table.proofs.RowRead.{row-reads}
+
+-- a byte outside a range of n bytes from i on keeps its value
+spread-else : (n i to v : ℕ) (l : List ℕ) (b : ℕ) → i + n ≡ to + 1 → to < length l → (b < i) ⊎ (to < b) → getD (spread i to v l) b 0 ≡ getD l b 0
+spread-else zero i to v l b e h c = ap (λ (r : List ℕ). getD r b 0) (spread-end i to v l (omega arith))
+spread-else (suc n) i to v l b e h c =
+    ap (λ (r : List ℕ). getD r b 0) (spread-step i to v l (omega arith) h)
+    ∙ spread-else n (i + 1) to v (set l i v) b (omega arith) (omega (arith, length-set l i v)) (further c) ∙ getD-set-other l i b v 0 (other c)
+  where
+    further : (b < i) ⊎ (to < b) → (b < i + 1) ⊎ (to < b)
+    further (inl x) = inl (omega arith)
+    further (inr x) = inr x
+
+    other : (b < i) ⊎ (to < b) → b ≡ i → ⊥
+    other (inl x) y = omega arith
+    other (inr x) y = omega arith
+
+-- and one inside has the new one
+spread-own : (n i to v : ℕ) (l : List ℕ) (b : ℕ) → i + n ≡ to + 1 → to < length l → i ≤ b → b ≤ to → getD (spread i to v l) b 0 ≡ v
+spread-own zero i to v l b e h x y = absurd (omega arith)
+spread-own (suc n) i to v l b e h x y =
+    ap (λ (r : List ℕ). getD r b 0) (spread-step i to v l (omega arith) h) ∙ by-first (leb (i + 1) b) refl (spread-own n (i + 1) to v (set l i v) b (omega arith) (omega (arith, length-set l i v)))
+  where
+    by-first : (z : Bool) → leb (i + 1) b ≡ z → (i + 1 ≤ b → b ≤ to → getD (spread (i + 1) to v (set l i v)) b 0 ≡ v) → getD (spread (i + 1) to v (set l i v)) b 0 ≡ v
+    by-first true k ih = ih (leb-true (i + 1) b k) y
+    by-first false k ih =
+        let w = leb-false (i + 1) b k in
+        let q : b ≡ i = omega arith in
+        spread-else n (i + 1) to v (set l i v) b (omega arith) (omega (arith, length-set l i v)) (inl w)
+        ∙ ap (λ (j : ℕ). getD (set l i v) j 0) q ∙ getD-set-same l i v 0 (omega arith)
+
+-- one entry over a row
+module _ (e : Column) (row : List ℕ) (b : ℕ) (h : e .hi < length row) where
+  entry-says : (Names e b × (getD (spread (e .lo) (e .hi) (meaning e) row) b 0 ≡ meaning e))
+      ⊎ ((Names e b → ⊥) × (getD (spread (e .lo) (e .hi) (meaning e) row) b 0 ≡ getD row b 0))
+  entry-says = by-range (leb (e .lo) (e .hi)) refl (leb (e .lo) b) refl (leb b (e .hi)) refl
+    where
+      by-range : (x : Bool) → leb (e .lo) (e .hi) ≡ x → (y : Bool) → leb (e .lo) b ≡ y → (z : Bool) → leb b (e .hi) ≡ z
+          → (Names e b × (getD (spread (e .lo) (e .hi) (meaning e) row) b 0 ≡ meaning e)) ⊎ ((Names e b → ⊥) × (getD (spread (e .lo) (e .hi) (meaning e) row) b 0 ≡ getD row b 0))
+      by-range false p y q z r =
+          let k = leb-false (e .lo) (e .hi) p in inr (λ n. omega (arith, n .0, n .1), ap (λ (l : List ℕ). getD l b 0) (spread-end (e .lo) (e .hi) (meaning e) row k))
+      by-range true p true q true r =
+          let k = leb-true (e .lo) (e .hi) p in
+          let x = leb-true (e .lo) b q in
+          let y = leb-true b (e .hi) r in
+          inl ((x, y), spread-own (e .hi + 1 - e .lo) (e .lo) (e .hi) (meaning e) row b (omega arith) h x y)
+      by-range true p false q z r =
+          let k = leb-true (e .lo) (e .hi) p in
+          let x = leb-false (e .lo) b q in
+          inr (λ n. omega (arith, n .0), spread-else (e .hi + 1 - e .lo) (e .lo) (e .hi) (meaning e) row b (omega arith) h (inl x))
+      by-range true p true q false r =
+          let k = leb-true (e .lo) (e .hi) p in
+          let y = leb-false b (e .hi) r in
+          inr (λ n. omega (arith, n .1), spread-else (e .hi + 1 - e .lo) (e .lo) (e .hi) (meaning e) row b (omega arith) h (inr y))
+
+-- entries over a row in which the byte has the value w
+abbrev Over : ℕ → List Column → ℕ → ℕ → Type 0
+Over w es b v =
+    (All (λ e. Names e b → ⊥) es × (v ≡ w))
+    ⊎ ((before : List Column) × (e : Column) × (after : List Column) × (es ≡ before ++ (e ∷ after)) × Names e b × All (λ x. Names x b → ⊥) after × (v ≡ meaning e))
+
+painted-says : (es : List Column) (row : List ℕ) (b : ℕ) → All (λ e. e .hi < length row) es → Over (getD row b 0) es b (getD (painted es row) b 0)
+unfolding painted
+painted-says [] row b a = inl (tt, refl)
+painted-says (e ∷ es) row b a =
+    let next : List ℕ = spread (e .lo) (e .hi) (meaning e) row in
+    by-rest (painted-says es next b (subst (λ (n : ℕ). All (λ x. x .hi < n) es) (sym (painted-length (e ∷ []) (length row) row (a .0, tt) refl)) (a .1))) (entry-says e row b (a .0))
+  where
+    by-rest : Over (getD (spread (e .lo) (e .hi) (meaning e) row) b 0) es b (getD (painted es (spread (e .lo) (e .hi) (meaning e) row)) b 0)
+        → (Names e b × (getD (spread (e .lo) (e .hi) (meaning e) row) b 0 ≡ meaning e)) ⊎ ((Names e b → ⊥) × (getD (spread (e .lo) (e .hi) (meaning e) row) b 0 ≡ getD row b 0))
+        → Over (getD row b 0) (e ∷ es) b (getD (painted es (spread (e .lo) (e .hi) (meaning e) row)) b 0)
+    by-rest (inl (none, v)) (inl (n, w)) = inr ([], e, es, refl, n, none, v ∙ w)
+    by-rest (inl (none, v)) (inr (n, w)) = inl ((n, none), v ∙ w)
+    by-rest (inr (before, x, after, are, n, none, v)) c = inr (e ∷ before, x, after, ap (λ (l : List Column). e ∷ l) are, n, none, v)
+
+entries-say : (es : List Column) (b : ℕ) → All (λ e. e .hi < 256) es → b < 256 → RowSays es b (getD (rowOf es) b 0)
+unfolding rowOf
+entries-say es b a h =
+    subst (λ (w : ℕ). Over w es b (getD (painted es (replicate 256 0)) b 0)) (getD-replicate 256 b 0 0 h)
+    (painted-says es (replicate 256 0) b (subst (λ (n : ℕ). All (λ e. e .hi < n) es) (sym (length-replicate {A = ℕ} 256 0)) a))
+
+-- A ROW SAYS OF EACH BYTE WHAT THE LAST ENTRY SAYS THAT NAMES IT
+pub row-says : (k : ℕ) (es : List Column) (v : List ℕ) (b : ℕ) → RowValue k es v → b < 256 → RowSays es b (getD (rowOf es) b 0)
+row-says k es v b f h =
+    entries-say es b (subst (All (λ e. e .hi < 256)) (row-reads k es v f .0) (all-map (λ c (x : Bounded c). x .0) (columnsOf v) (columns-bounded v))) h
