@@ -34,6 +34,33 @@ CHARMAP
 END CHARMAP
 ";
 
+/// K with every liberty of the grammar: `freeText` of crates/table/specs/TableK.antt, byte for byte.
+const K_FREE: &[u8] = b"\
+    # K, fa\xe7on libre\r\n\
+    \r\n\
+    \t <code_set_name>\"kettle #1 \xe9\r\"  # name\n\
+    <mb_cur_min>\t1 # one\r\n\
+    <mb_cur_max>2\n\
+    <a\"b> \"caf\xe9 # \r\" \t# \"\n\
+    <uconv_class>\t\"MBCS\r\n\
+    <U0041> \"open \xff #\n\
+    <subchar> \\x3f\t#\r\n\
+    <icu:state>initial ,2D,30\t-\t3F . i, 30:0., 33 .,3f , 81 : 1\n\
+    \x20\x20<icu:state> 7c-7D,80.u# u\n\
+    \x20\t\n\
+    \tCHARMAP # \"\r\n\
+    <U2D>\\x2d\n\
+    \t<U000030> \\x30 |0 # zero\r\n\
+    #\n\
+    <U33>\t\\x33\t|0\t\n\
+    <U2212>\\x81 \\x7c|0#\n\
+    \x20<Uff0d> \\x81\\x7C |1\r\n\
+    <U2212>\t\\x81\t\\x7D|3\n\
+    END \t CHARMAP# end\n\
+    \n\
+    # the last line has no end\
+    ";
+
 const K_RECORD: Record = [2, 6, 1, 2, 0x3f00_0000, 1, 0];
 /// Row, first byte, last byte, number.
 const K_STATES: &[(usize, usize, usize, u16)] = &[
@@ -807,6 +834,8 @@ fn numbers(l: &mut List) {
 
 /// Readings R1 to R20.
 fn text_readings(l: &mut List) {
+    l.k1("K with every liberty of the grammar", K_FREE);
+
     // R1
     l.k1("R1: open class", k_line(4, "<uconv_class> \"MBCS"));
     l.k1("R1: open class (CR LF)", with_cr_lf(&k_line(4, "<uconv_class> \"MBCS")));
