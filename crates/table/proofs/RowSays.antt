@@ -3,7 +3,7 @@ use Prim.Native.Nat.{ℕ, zero, suc, _+_, _-_, _<_, _≤_}
 use mathlib.Core.Path.{_≡_, refl, sym, ap, _∙_, subst}
 use mathlib.Core.Logic.{_⊎_, inl, inr}
 use mathlib.Core.Bool.{Bool, true, false}
-use mathlib.Core.List.{List, [], _∷_, _++_}
+use mathlib.Core.List.{List, [], _∷_}
 use native.Mathlib.Omega.{arith}
 use lib.ListN.{length, getD, set, replicate, getD-replicate, length-replicate, length-set}
 use lib.Seq.{getD-set-same, getD-set-other}
@@ -12,7 +12,7 @@ use borrow.Author.Tests.{leb-true, leb-false}
 use Rattle.lists.specs.Order.{All}
 use Rattle.lists.proofs.Order.{all-map}
 use Rattle.table.specs.Row.{columnsOf, meaning, spread, painted, rowOf}
-use Rattle.table.specs.Grammar.{RowValue, Names, RowSays}
+use Rattle.table.specs.Grammar.{RowValue, Names, SaysElse, RowSays}
 use Rattle.table.specs.declared.header.Column.{Column}
 use Rattle.table.proofs.RowText.{Bounded, columns-bounded, spread-step, spread-end, painted-length}
 use Rattle.table.proofs.RowRead.{row-reads}
@@ -70,22 +70,17 @@ module _ (e : Column) (row : List ℕ) (b : ℕ) (h : e .hi < length row) where
           let y = leb-false b (e .hi) r in
           inr (λ n. omega (arith, n .1), spread-else (e .hi + 1 - e .lo) (e .lo) (e .hi) (meaning e) row b (omega arith) h (inr y))
 
--- entries over a row in which the byte has the value w
-abbrev Over : ℕ → List Column → ℕ → ℕ → Type 0
-Over w es b v =
-    (All (λ e. Names e b → ⊥) es × (v ≡ w))
-    ⊎ ((before : List Column) × (e : Column) × (after : List Column) × (es ≡ before ++ (e ∷ after)) × Names e b × All (λ x. Names x b → ⊥) after × (v ≡ meaning e))
-
-painted-says : (es : List Column) (row : List ℕ) (b : ℕ) → All (λ e. e .hi < length row) es → Over (getD row b 0) es b (getD (painted es row) b 0)
+-- entries over a row
+painted-says : (es : List Column) (row : List ℕ) (b : ℕ) → All (λ e. e .hi < length row) es → SaysElse (getD row b 0) es b (getD (painted es row) b 0)
 unfolding painted
 painted-says [] row b a = inl (tt, refl)
 painted-says (e ∷ es) row b a =
     let next : List ℕ = spread (e .lo) (e .hi) (meaning e) row in
     by-rest (painted-says es next b (subst (λ (n : ℕ). All (λ x. x .hi < n) es) (sym (painted-length (e ∷ []) (length row) row (a .0, tt) refl)) (a .1))) (entry-says e row b (a .0))
   where
-    by-rest : Over (getD (spread (e .lo) (e .hi) (meaning e) row) b 0) es b (getD (painted es (spread (e .lo) (e .hi) (meaning e) row)) b 0)
+    by-rest : SaysElse (getD (spread (e .lo) (e .hi) (meaning e) row) b 0) es b (getD (painted es (spread (e .lo) (e .hi) (meaning e) row)) b 0)
         → (Names e b × (getD (spread (e .lo) (e .hi) (meaning e) row) b 0 ≡ meaning e)) ⊎ ((Names e b → ⊥) × (getD (spread (e .lo) (e .hi) (meaning e) row) b 0 ≡ getD row b 0))
-        → Over (getD row b 0) (e ∷ es) b (getD (painted es (spread (e .lo) (e .hi) (meaning e) row)) b 0)
+        → SaysElse (getD row b 0) (e ∷ es) b (getD (painted es (spread (e .lo) (e .hi) (meaning e) row)) b 0)
     by-rest (inl (none, v)) (inl (n, w)) = inr ([], e, es, refl, n, none, v ∙ w)
     by-rest (inl (none, v)) (inr (n, w)) = inl ((n, none), v ∙ w)
     by-rest (inr (before, x, after, are, n, none, v)) c = inr (e ∷ before, x, after, ap (λ (l : List Column). e ∷ l) are, n, none, v)
@@ -93,7 +88,7 @@ painted-says (e ∷ es) row b a =
 entries-say : (es : List Column) (b : ℕ) → All (λ e. e .hi < 256) es → b < 256 → RowSays es b (getD (rowOf es) b 0)
 unfolding rowOf
 entries-say es b a h =
-    subst (λ (w : ℕ). Over w es b (getD (painted es (replicate 256 0)) b 0)) (getD-replicate 256 b 0 0 h)
+    subst (λ (w : ℕ). SaysElse w es b (getD (painted es (replicate 256 0)) b 0)) (getD-replicate 256 b 0 0 h)
     (painted-says es (replicate 256 0) b (subst (λ (n : ℕ). All (λ e. e .hi < n) es) (sym (length-replicate {A = ℕ} 256 0)) a))
 
 -- A ROW SAYS OF EACH BYTE WHAT THE LAST ENTRY SAYS THAT NAMES IT

@@ -75,17 +75,15 @@ mapping-goes : (lim : Limits) (h : Head) (rows : List (List ℕ)) (ms : List Lin
 unfolding mappingStep
 mapping-goes lim h rows ms u c d = rw (mapping-fine lim h rows ms (lineAs u c d))
 
--- between CHARMAP and END CHARMAP: what is left to read
-record BodyRest (ls : List (List ℕ)) (h : Head) (rows : List (List ℕ)) (ms : List Line) (t : Table) : Type 0 where
-  body : List (List ℕ)
-  ending-line : List ℕ
-  rest : List (List ℕ)
-  news : List Line
-  lines-are : ls ≡ body ++ (ending-line ∷ rest)
-  mappings : Listed MappingLine news body
-  end-line : EndLine ending-line
-  nothing-else : All BlankLine rest
-  table : t ≡ tableWith h rows (reverseAux news ms)
+-- END CHARMAP and blank lines
+abbrev Ending : List (List ℕ) → Type 0
+Ending ls = (end : List ℕ) × (rest : List (List ℕ)) × (ls ≡ end ∷ rest) × EndLine end × All BlankLine rest
+
+-- between CHARMAP and END CHARMAP, behind the mappings ms: mapping lines, and the end
+abbrev BodyRest : List (List ℕ) → Head → List (List ℕ) → List Line → Table → Type 0
+BodyRest ls h rows ms t =
+    (body : List (List ℕ)) × (tail : List (List ℕ)) × (news : List Line)
+    × (ls ≡ body ++ tail) × Listed MappingLine news body × Ending tail × (t ≡ tableWith h rows (reverseAux news ms))
 
 body-go : (lim : Limits) (t : Table) (ls : List (List ℕ)) (k : ℕ) (h : Head) (rows : List (List ℕ)) (ms : List Line)
     → loadGo inForm lim k ls (went (reading Mappings h rows ms)) ≡ accepted t → BodyRest ls h rows ms t
@@ -93,102 +91,31 @@ unfolding loadGo phaseStep mappingStep outcomeAt
 body-go lim t [] k h rows ms e = absurd (refused-accepted _ _ t e)
 body-go lim t (l ∷ ls) k h rows ms e = by-form (mappedOf l) (form-written l) (λ m. body-go lim t ls (k + 1) h rows m) e
   where
+    longer : (x y : List (List ℕ)) → ls ≡ x ++ y → l ∷ ls ≡ l ∷ (x ++ y)
+    longer x y are = ap (λ (z : List (List ℕ)). l ∷ z) are
+
     by-form : (f : Form) → FormMeans l f → ((m : List Line) → loadGo inForm lim (k + 1) ls (went (reading Mappings h rows m)) ≡ accepted t → BodyRest ls h rows m t)
         → loadGo inForm lim (k + 1) ls (mappingStep inForm lim h rows ms f) ≡ accepted t → BodyRest (l ∷ ls) h rows ms t
     by-form noForm m ih x = stopped lim (k + 1) ls _ t x
     by-form reserved m ih x = stopped lim (k + 1) ls _ t x
-    by-form blank m ih x =
-        let r = ih ms x in
-        record {
-          body = l ∷ r .body;
-          ending-line = r .ending-line;
-          rest = r .rest;
-          news = r .news;
-          lines-are = ap (λ (y : List (List ℕ)). l ∷ y) (r .lines-are);
-          mappings = inl (m, r .mappings);
-          end-line = r .end-line;
-          nothing-else = r .nothing-else;
-          table = r .table;
-        }
-    by-form ending m ih x =
-        let r = last-go lim t ls (k + 1) h rows ms x in
-        record {
-          body = [];
-          ending-line = l;
-          rest = ls;
-          news = [];
-          lines-are = refl;
-          mappings = refl;
-          end-line = m;
-          nothing-else = r .0;
-          table = r .1;
-        }
+    by-form blank m ih x = let (body, tail, news, are, each, end, table) = ih ms x in (l ∷ body, tail, news, longer body tail are, inl (m, each), end, table)
+    by-form ending m ih x = let r = last-go lim t ls (k + 1) h rows ms x in ([], l ∷ ls, [], refl, refl, (l, ls, refl, m, r .0), r .1)
     by-form (mapping u c d) m ih x =
-        let r = ih (lineAs u c d ∷ ms) (sym (ap (loadGo inForm lim (k + 1) ls) (mapping-goes lim h rows ms u c d)) ∙ x) in
-        record {
-          body = l ∷ r .body;
-          ending-line = r .ending-line;
-          rest = r .rest;
-          news = lineAs u c d ∷ r .news;
-          lines-are = ap (λ (y : List (List ℕ)). l ∷ y) (r .lines-are);
-          mappings = inr (lineAs u c d, r .news, refl, m, r .mappings);
-          end-line = r .end-line;
-          nothing-else = r .nothing-else;
-          table = r .table;
-        }
+        let n : Line = lineAs u c d in
+        let (body, tail, news, are, each, end, table) = ih (n ∷ ms) (sym (ap (loadGo inForm lim (k + 1) ls) (mapping-goes lim h rows ms u c d)) ∙ x) in
+        (l ∷ body, tail, n ∷ news, longer body tail are, inr (n, news, refl, m, each), end, table)
 
--- before CHARMAP: what is left to read, behind the keys ps
-record HeaderRest (ls : List (List ℕ)) (ps : List Pair) (t : Table) : Type 0 where
-  pairs : List Pair
-  header : List (List ℕ)
-  charmap : List ℕ
-  body : List (List ℕ)
-  ending-line : List ℕ
-  rest : List (List ℕ)
-  lines-are : ls ≡ header ++ (charmap ∷ (body ++ (ending-line ∷ rest)))
-  keys : Listed KeyLine pairs header
-  charmap-line : CharmapLine charmap
-  mappings : Listed MappingLine (reverse (t .lines)) body
-  end-line : EndLine ending-line
-  nothing-else : All BlankLine rest
-  says : HeaderSays (reverseAux ps pairs) t
+-- CHARMAP and what follows it
+abbrev Charmapped : List (List ℕ) → Table → Type 0
+Charmapped ls t =
+    (charmap : List ℕ) × (body : List (List ℕ)) × (tail : List (List ℕ))
+    × (ls ≡ charmap ∷ (body ++ tail)) × CharmapLine charmap × Listed MappingLine (reverse (t .lines)) body × Ending tail
 
--- one line more before it
-blank-before : (l : List ℕ) (ls : List (List ℕ)) (ps : List Pair) (t : Table) → BlankLine l → HeaderRest ls ps t → HeaderRest (l ∷ ls) ps t
-blank-before l ls ps t b r =
-    record {
-      pairs = r .pairs;
-      header = l ∷ r .header;
-      charmap = r .charmap;
-      body = r .body;
-      ending-line = r .ending-line;
-      rest = r .rest;
-      lines-are = ap (λ (y : List (List ℕ)). l ∷ y) (r .lines-are);
-      keys = inl (b, r .keys);
-      charmap-line = r .charmap-line;
-      mappings = r .mappings;
-      end-line = r .end-line;
-      nothing-else = r .nothing-else;
-      says = r .says;
-    }
-
-key-before : (l : List ℕ) (ls : List (List ℕ)) (ps : List Pair) (t : Table) (p : Pair) → KeyLine p l → HeaderRest ls (p ∷ ps) t → HeaderRest (l ∷ ls) ps t
-key-before l ls ps t p k r =
-    record {
-      pairs = p ∷ r .pairs;
-      header = l ∷ r .header;
-      charmap = r .charmap;
-      body = r .body;
-      ending-line = r .ending-line;
-      rest = r .rest;
-      lines-are = ap (λ (y : List (List ℕ)). l ∷ y) (r .lines-are);
-      keys = inr (p, r .pairs, refl, k, r .keys);
-      charmap-line = r .charmap-line;
-      mappings = r .mappings;
-      end-line = r .end-line;
-      nothing-else = r .nothing-else;
-      says = r .says;
-    }
+-- before CHARMAP, behind the keys ps, the last one first: key lines, and CHARMAP
+abbrev HeaderRest : List (List ℕ) → List Pair → Table → Type 0
+HeaderRest ls ps t =
+    (pairs : List Pair) × (header : List (List ℕ)) × (tail : List (List ℕ))
+    × (ls ≡ header ++ tail) × Listed KeyLine pairs header × Charmapped tail t × HeaderSays (reverseAux ps pairs) t
 
 -- the line CHARMAP
 charmap-fine : (h : Head) (rows : List (List ℕ)) → inForm (charmapConditions h rows) ≡ Fine → n13 h ≡ false
@@ -201,22 +128,17 @@ charmap-fine h rows e = by-absent (n13 h) refl e
 
 charmap-before : (l : List ℕ) (ls : List (List ℕ)) (ps : List Pair) (t : Table) (h : Head) (rows : List (List ℕ)) → Held h rows ps → n13 h ≡ false → CharmapLine l
     → BodyRest ls (headAt h (rowsAt h rows)) (rowsAt h rows) [] t → HeaderRest (l ∷ ls) ps t
-charmap-before l ls ps t h rows held n c r =
-    record {
-      pairs = [];
-      header = [];
-      charmap = l;
-      body = r .body;
-      ending-line = r .ending-line;
-      rest = r .rest;
-      lines-are = ap (λ (y : List (List ℕ)). l ∷ y) (r .lines-are);
-      keys = refl;
-      charmap-line = c;
-      mappings = subst (λ (ns : List Line). Listed MappingLine ns (r .body)) (sym (ap (λ (x : Table). reverse (x .lines)) (r .table) ∙ reverse-reverse (r .news))) (r .mappings);
-      end-line = r .end-line;
-      nothing-else = r .nothing-else;
-      says = subst (HeaderSays (reverse ps)) (sym (r .table)) (header-said h rows (reverse ps) (reverse (r .news)) (in-order h rows ps held) n);
-    }
+charmap-before l ls ps t h rows held n c (body, tail, news, are, each, end, table) =
+    let back : reverse (t .lines) ≡ news = ap (λ (x : Table). reverse (x .lines)) table ∙ reverse-reverse news in
+    let y = header-said h rows (reverse ps) (reverse news) (in-order h rows ps held) n in (
+      [],
+      [],
+      l ∷ ls,
+      refl,
+      refl,
+      (l, body, tail, ap (λ (z : List (List ℕ)). l ∷ z) are, c, subst (λ (ns : List Line). Listed MappingLine ns body) (sym back) each, end),
+      subst (HeaderSays (reverse ps)) (sym table) y,
+    )
 
 -- a header line of the grammar gives its key one value more
 known-held : (lim : Limits) (h : Head) (rows : List (List ℕ)) (ps : List Pair) (k : Key) (v : Value) (w : List ℕ) (p : Pair) → Held h rows ps
@@ -236,11 +158,14 @@ unfolding loadGo phaseStep headerStep outcomeAt
 header-go lim t [] k h rows ps held e = absurd (refused-accepted _ _ t e)
 header-go lim t (l ∷ ls) k h rows ps held e = by-line (lineOf l) (line-written l) (header-go lim t ls (k + 1)) e
   where
+    longer : (x y : List (List ℕ)) → ls ≡ x ++ y → l ∷ ls ≡ l ∷ (x ++ y)
+    longer x y are = ap (λ (z : List (List ℕ)). l ∷ z) are
+
     by-line : (x : HeaderLine) → LineMeans l x
         → ((g : Head) (rs : List (List ℕ)) (qs : List Pair) → Held g rs qs → loadGo inForm lim (k + 1) ls (went (reading Header g rs [])) ≡ accepted t → HeaderRest ls qs t)
         → loadGo inForm lim (k + 1) ls (headerStep inForm lim h rows l x) ≡ accepted t → HeaderRest (l ∷ ls) ps t
     by-line header.NoForm m ih x = stopped lim (k + 1) ls _ t x
-    by-line header.Blank m ih x = blank-before l ls ps t m (ih h rows ps held x)
+    by-line header.Blank m ih x = let (pairs, header, tail, are, keys, rest, y) = ih h rows ps held x in (pairs, l ∷ header, tail, longer header tail are, inl (m, keys), rest, y)
     by-line header.Charmap m ih x = by-verdict (inForm (charmapConditions h rows)) refl x
       where
         by-verdict : (v : Verdict) → inForm (charmapConditions h rows) ≡ v
@@ -252,8 +177,9 @@ header-go lim t (l ∷ ls) k h rows ps held e = by-line (lineOf l) (line-written
         by-verdict : (y : Verdict) → inForm (keyConditions lim h i v) ≡ y
             → loadGo inForm lim (k + 1) ls (judged y (reading Header (keep h v) (keepRow v (take (z - q) (drop q l)) rows) [])) ≡ accepted t → HeaderRest (l ∷ ls) ps t
         by-verdict Fine f y =
-            key-before l ls ps t p line
-            (ih (keep h v) (keepRow v (take (z - q) (drop q l)) rows) (p ∷ ps) (known-held lim h rows ps i v (take (z - q) (drop q l)) p held f key value part) y)
+            let g = known-held lim h rows ps i v (take (z - q) (drop q l)) p held f key value part in
+            let (pairs, header, tail, are, keys, rest, says) = ih (keep h v) (keepRow v (take (z - q) (drop q l)) rows) (p ∷ ps) g y in
+            (p ∷ pairs, l ∷ header, tail, longer header tail are, inr (p, pairs, refl, line, keys), rest, says)
         by-verdict (Refuse r) f y = stopped lim (k + 1) ls r t y
 
 -- before the first line
@@ -270,21 +196,23 @@ start-held = (
 pub read-text : (lim : Limits) (text : List ℕ) (t : Table) → readOf lim text ≡ accepted t → TableText text t
 unfolding readOf
 read-text lim text t e =
-    let r = header-go lim t (linesOf text) 0 emptyHead [] [] start-held e in
+    let (pairs, header, tail, are, keys, (charmap, body, last, lines, c, each, (end, rest, ends, d, blanks)), says) = header-go lim t (linesOf text) 0 emptyHead [] [] start-held e in
+    let all : linesOf text ≡ header ++ (charmap ∷ (body ++ (end ∷ rest))) =
+    are ∙ ap (λ (x : List (List ℕ)). header ++ x) (lines ∙ ap (λ (x : List (List ℕ)). charmap ∷ (body ++ x)) ends) in
     record {
-      pairs = r .pairs;
-      header = r .header;
-      charmap = r .charmap;
-      body = r .body;
-      ending = r .ending-line;
-      rest = r .rest;
-      lines = subst (λ (ls : List (List ℕ)). Lines ls text) (r .lines-are) (lines-written text);
-      keys = r .keys;
-      charmap-line = r .charmap-line;
-      mappings = r .mappings;
-      end-line = r .end-line;
-      nothing-else = r .nothing-else;
-      says = r .says;
+      pairs = pairs;
+      header = header;
+      charmap = charmap;
+      body = body;
+      ending = end;
+      rest = rest;
+      lines = subst (λ (ls : List (List ℕ)). Lines ls text) all (lines-written text);
+      keys = keys;
+      charmap-line = c;
+      mappings = each;
+      end-line = d;
+      nothing-else = blanks;
+      says = says;
     }
 
 -- ## A text of the grammar is read as its table

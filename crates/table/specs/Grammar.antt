@@ -262,11 +262,15 @@ RowValue k es v =
 abbrev pub Names : Column → ℕ → Type 0
 Names e b = (e .lo ≤ b) × (b ≤ e .hi)
 
--- v is what entries say of the byte b (`meaning`): the last one that names it decides, and a byte not named is illegal (0)
-abbrev pub RowSays : List Column → ℕ → ℕ → Type 0
-RowSays es b v =
-    (All (λ e. Names e b → ⊥) es × (v ≡ 0))
+-- v is what entries say of the byte b: the last one that names it decides (`meaning`); if none does, it is w
+abbrev pub SaysElse : ℕ → List Column → ℕ → ℕ → Type 0
+SaysElse w es b v =
+    (All (λ e. Names e b → ⊥) es × (v ≡ w))
     ⊎ ((before : List Column) × (e : Column) × (after : List Column) × (es ≡ before ++ (e ∷ after)) × Names e b × All (λ x. Names x b → ⊥) after × (v ≡ meaning e))
+
+-- a byte not named is illegal (0)
+abbrev pub RowSays : List Column → ℕ → ℕ → Type 0
+RowSays es b v = SaysElse 0 es b v
 
 -- row n of a text: `initial` may open row 0, and 14 and 15 name none of its entries
 pub record StateRow (n : ℕ) (es : List Column) (v : List ℕ) : Type 0 where
