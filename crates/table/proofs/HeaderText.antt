@@ -12,7 +12,7 @@ use borrow.Author.Tests.{ltb-true, lt-ltb, le-ltb, lt-leb, eqb-true, eqb-false, 
 use Rattle.lists.specs.Pick.{pick}
 use Rattle.lists.specs.Ascii.{ascii}
 use Rattle.lists.proofs.Laws.{clash}
-use Rattle.lists.proofs.Cases.{pick-case}
+use Rattle.lists.proofs.Choice.{pick-false}
 use Rattle.lists.proofs.Chains.{chain, chain-first, chain-rest}
 use Rattle.table.specs.Limits.{Limits}
 use Rattle.table.specs.Codes.{packed, bytesOf}
@@ -34,6 +34,7 @@ use Rattle.table.proofs.Packing.{pack-one-way}
 use Rattle.table.proofs.Judged.{tableWith}
 use Rattle.table.proofs.ValueRead.{name-reads, min-reads, max-reads, class-reads, sub-reads, sub1-reads, bytes-are}
 use Rattle.table.proofs.RowRead.{row-reads}
+use Rattle.table.proofs.RowEntries.{none-later, none-over}
 use Rattle.table.proofs.KeysHeld.{pair, KeyMeans, Slot, flag, ClassOf, Subchar1Of, Slots, RowsHeld, Held}
 
 -- ## The lines of a header, the last one first, and in the text's order
@@ -238,7 +239,7 @@ word-built n k (inr (e, z)) = rw (e, z)
 row-asked : (lim : Limits) (h : Head) (es : List Column) (v : List ℕ) → StateRow (h .rows) es v → h .rows < lim .rows → Asked lim h State (valueOf State v)
 unfolding n11 n12 n14 n15 rowOver
 row-asked lim h es v r room =
-    let e : valueOf State v ≡ Row (r .word) false false = row-reads (r .word) es v (r .form) .1 ∙ (λ i. Row (r .word) (r .built i) (r .ranged i)) in
+    let e : valueOf State v ≡ Row (r .word) false false = row-reads (r .word) es v (r .form) .1 ∙ (λ i. Row (r .word) (none-later es .1 (r .built) i) (none-over es .1 (r .ranged) i)) in
     subst (Asked lim h State) (sym e)
     (record { again = refl; fit = refl; built = word-built (h .rows) (r .word) (r .opening); ranged = lt-leb (lim .rows) (h .rows) room })
 
@@ -360,7 +361,7 @@ module _ (h : Head) (rows : List (List ℕ)) (ps : List Pair) (t : Table) (held 
           let a = rows-long 0 (held .1 .entries) (valuesOf State ps) (held .1 .states) in
           let b = rows-long 0 (y .entries) (valuesOf State ps) (y .states) in
           let c = held .1 .counted in
-          rw (ne-eqb (h .rows) 0 (λ z. omega arith)) (pick-case (λ (x : Bool). x ≡ false) (eqb (h .class) 1) false false (λ _. refl) (λ _. refl))
+          rw (ne-eqb (h .rows) 0 (λ z. omega arith)) (pick-false (eqb (h .class) 1))
       by-rows (inr (e, w, x)) =
           let o = y .quoted in
           let c = given-once (h .class) (ClassOf (h .class)) (valuesOf ConvClass ps) (held .0 .3) (present (h .class) (ClassOf (h .class)) (valuesOf ConvClass ps) (o .0) (held .0 .3) (o .1)) in

@@ -33,6 +33,7 @@ use Rattle.table.proofs.LineLaws.{same-is}
 use Rattle.table.proofs.Packing.{unpack}
 use Rattle.table.proofs.ValueRead.{name-cases, min-cases, max-cases, class-cases, sub-cases, sub1-cases, bytes-are}
 use Rattle.table.proofs.RowWritten.{row-cases}
+use Rattle.table.proofs.RowEntries.{none-later, none-over}
 
 abbrev pub pair : List ℕ → List ℕ → Pair
 pair w v = record { key = w; value = v }
@@ -171,8 +172,8 @@ row-passed lim n k l o v f x y e g =
       word = k;
       form = f;
       opening = row-opening n k (columnsOf v) v f (either-rest l (pick (eqb k 2) true (pick (eqb k 1) (ltb 0 n) false)) e);
-      built = sym x ∙ either-first l (pick (eqb k 2) true (pick (eqb k 1) (ltb 0 n) false)) e;
-      ranged = sym y ∙ either-first o (leb (lim .rows) n) g;
+      built = none-later (columnsOf v) .0 (sym x ∙ either-first l (pick (eqb k 2) true (pick (eqb k 1) (ltb 0 n) false)) e);
+      ranged = none-over (columnsOf v) .0 (sym y ∙ either-first o (leb (lim .rows) n) g);
     }
 
 module _ (lim : Limits) (h : Head) (rows : List (List ℕ)) (ps : List Pair) (v : List ℕ) (held : Held h rows ps) where

@@ -28,6 +28,7 @@ pub mod MappingRead
 pub mod RowRead
 pub mod RowWritten
 pub mod RowSays
+pub mod RowEntries
 pub mod LinesRead
 pub mod HeaderRead
 pub mod ValueRead

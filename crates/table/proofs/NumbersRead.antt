@@ -7,12 +7,13 @@ use mathlib.Core.Bool.{Bool, true, false}
 use mathlib.Core.List.{List, [], _∷_, _++_}
 use native.Mathlib.Omega.{arith}
 use lib.ListN.{length}
-use lib.Dec.{ltb, eqb}
+use lib.Dec.{ltb, leb, eqb}
 use borrow.Author.Tests.{ltb-true, lt-ltb, leb-true, le-leb, eqb-true}
 use Rattle.lists.specs.Pick.{pick}
 use Rattle.lists.specs.Order.{All, In}
 use Rattle.lists.specs.Ascii.{ascii}
 use Rattle.lists.proofs.Laws.{clash}
+use Rattle.lists.proofs.Choice.{always}
 use Rattle.table.specs.Limits.{Limits}
 use Rattle.table.specs.Codes.{packed}
 use Rattle.table.specs.Meaning.{Line, same}
@@ -39,6 +40,7 @@ use Rattle.table.proofs.SeriesRead.{several}
 use Rattle.table.proofs.MappingRead.{formOf, any-mapping-reads, later-mapping-reads}
 use Rattle.table.proofs.RowRead.{row-reads}
 use Rattle.table.proofs.RowWritten.{row-cases}
+use Rattle.table.proofs.RowEntries.{some-later, some-over}
 use Rattle.table.proofs.HeaderRead.{LineMeans, line-written, key-line-reads, blank-line-reads, charmap-line-reads}
 use Rattle.table.proofs.ValueRead.{name-reads, name-cases, min-reads, min-cases, max-reads, max-cases, class-reads, class-cases, sub-reads, sub-cases, sub1-reads, sub1-cases}
 use Rattle.table.proofs.FormsRead.{FormMeans, form-written, blank-body, charmap-body, end-body, LastMeans, last-written, blank-last, charmap-last}
@@ -158,34 +160,34 @@ key-known w State m = inl m
 key-known w Base m = inl m
 key-known w Other m = inr refl
 
--- rows under 14 and 15
-later-row : (n k : ℕ) (l : Bool) → rowLater n k l ≡ true → (k ≡ 2) ⊎ (((k ≡ 1) × (1 ≤ n)) ⊎ (l ≡ true))
+-- rows under 14 and 15, by what their entries are
+later-row : (n k : ℕ) (l : Bool) (L : Type 0) → (l ≡ true) ↔ L → (rowLater n k l ≡ true) ↔ ((k ≡ 2) ⊎ (((k ≡ 1) × (1 ≤ n)) ⊎ L))
 unfolding rowLater
-later-row n k true e = inr (inr refl)
-later-row n k false e = by-two (eqb k 2) refl (eqb k 1) refl e
+later-row n k l L is = (there l refl (eqb k 2) refl (eqb k 1) refl, back)
   where
-    by-two : (x : Bool) → eqb k 2 ≡ x → (y : Bool) → eqb k 1 ≡ y → pick x true (pick y (ltb 0 n) false) ≡ true → (k ≡ 2) ⊎ (((k ≡ 1) × (1 ≤ n)) ⊎ (false ≡ true))
-    by-two true p y q h = inl (eqb-true k 2 p)
-    by-two false p true q h = inr (inl (eqb-true k 1 q, ltb-true 0 n h))
-    by-two false p false q h = absurd (clash h refl)
+    there : (w : Bool) → l ≡ w → (x : Bool) → eqb k 2 ≡ x → (y : Bool) → eqb k 1 ≡ y → pick w true (pick x true (pick y (ltb 0 n) false)) ≡ true
+        → (k ≡ 2) ⊎ (((k ≡ 1) × (1 ≤ n)) ⊎ L)
+    there true r x p y q h = inr (inr (is .0 r))
+    there false r true p y q h = inl (eqb-true k 2 p)
+    there false r false p true q h = inr (inl (eqb-true k 1 q, ltb-true 0 n h))
+    there false r false p false q h = absurd (clash h refl)
 
-row-later : (n k : ℕ) (l : Bool) → (k ≡ 2) ⊎ (((k ≡ 1) × (1 ≤ n)) ⊎ (l ≡ true)) → rowLater n k l ≡ true
-unfolding rowLater
-row-later n k true c = refl
-row-later n k false (inl e) = rw e
-row-later n k false (inr (inl (e, one))) = rw (e, lt-ltb 0 n one)
-row-later n k false (inr (inr e)) = absurd (clash e refl)
+    back : (k ≡ 2) ⊎ (((k ≡ 1) × (1 ≤ n)) ⊎ L) → pick l true (pick (eqb k 2) true (pick (eqb k 1) (ltb 0 n) false)) ≡ true
+    back (inl e) = rw e (always l)
+    back (inr (inl (e, one))) = rw (e, lt-ltb 0 n one) (always l)
+    back (inr (inr s)) = rw (is .1 s)
 
-over-row : (lim : Limits) (n : ℕ) (o : Bool) → rowOver lim n o ≡ true → (o ≡ true) ⊎ (lim .rows ≤ n)
+over-row : (lim : Limits) (n : ℕ) (o : Bool) (O : Type 0) → (o ≡ true) ↔ O → (rowOver lim n o ≡ true) ↔ (O ⊎ (lim .rows ≤ n))
 unfolding rowOver
-over-row lim n true e = inl refl
-over-row lim n false e = inr (leb-true (lim .rows) n e)
+over-row lim n o O is = (there o refl, back)
+  where
+    there : (x : Bool) → o ≡ x → pick x true (leb (lim .rows) n) ≡ true → O ⊎ (lim .rows ≤ n)
+    there true r h = inl (is .0 r)
+    there false r h = inr (leb-true (lim .rows) n h)
 
-row-over : (lim : Limits) (n : ℕ) (o : Bool) → (o ≡ true) ⊎ (lim .rows ≤ n) → rowOver lim n o ≡ true
-unfolding rowOver
-row-over lim n true c = refl
-row-over lim n false (inl e) = absurd (clash e refl)
-row-over lim n false (inr h) = le-leb (lim .rows) n h
+    back : O ⊎ (lim .rows ≤ n) → pick o true (leb (lim .rows) n) ≡ true
+    back (inl s) = rw (is .1 s)
+    back (inr h) = rw (le-leb (lim .rows) n h) (always o)
 
 -- a test that fails for values of all keys but three
 record Silent (f : Value → Bool) : Type 0 where
@@ -275,7 +277,7 @@ module _ (w v : List ℕ) where
       by-row m (inl u) e = absurd (clash e (ap (n14 n) u))
       by-row m (inr (k, l, o, c, f, x, y)) e =
           let z : rowLater n k (anyOf laterColumn (columnsOf v)) ≡ true = ap (rowLater n k) (sym x) ∙ sym (ap (n14 n) c) ∙ e in
-          inr (inr (m, (k, columnsOf v, f, later-row n k (anyOf laterColumn (columnsOf v)) z)))
+          inr (inr (m, (k, columnsOf v, f, later-row n k (anyOf laterColumn (columnsOf v)) _ (some-later (columnsOf v)) .0 z)))
 
       by-key : (keyOf w ≡ ConvClass) ⊎ ((keyOf w ≡ State) ⊎ (keyOf w ≡ Base)) → n14 n (valueOf (keyOf w) v) ≡ true → LaterPair n (pair w v)
       by-key (inl k) e = by-class (word-of ConvClass (λ z. known-other ConvClass z (omega arith)) k) (class-cases v) (sym (ap (λ (x : Key). n14 n (valueOf x v)) k) ∙ e)
@@ -286,7 +288,7 @@ module _ (w v : List ℕ) where
       back (inl m) = ap (n14 n) (read-as Base m)
       back (inr (inl (m, inl q))) = ap (n14 n) (read-as ConvClass m ∙ class-reads (ascii "DBCS") v q)
       back (inr (inl (m, inr q))) = ap (n14 n) (read-as ConvClass m ∙ class-reads (ascii "EBCDIC_STATEFUL") v q)
-      back (inr (inr (m, (k, es, f, c)))) = ap (n14 n) (read-as State m ∙ row-reads k es v f .1) ∙ row-later n k (anyOf laterColumn es) c
+      back (inr (inr (m, (k, es, f, c)))) = ap (n14 n) (read-as State m ∙ row-reads k es v f .1) ∙ later-row n k (anyOf laterColumn es) _ (some-later es) .1 c
 
   -- 15
   fifteen-pair : (lim : Limits) (n : ℕ) → (n15 lim n read ≡ true) ↔ N15 (lim .rows) n (pair w v)
@@ -300,7 +302,7 @@ module _ (w v : List ℕ) where
       by-row m (inl u) e = absurd (clash e (ap (n15 lim n) u))
       by-row m (inr (k, l, o, c, f, x, y)) e =
           let z : rowOver lim n (anyOf overColumn (columnsOf v)) ≡ true = ap (rowOver lim n) (sym y) ∙ sym (ap (n15 lim n) c) ∙ e in
-          (m, (k, columnsOf v, f, over-row lim n (anyOf overColumn (columnsOf v)) z))
+          (m, (k, columnsOf v, f, over-row lim n (anyOf overColumn (columnsOf v)) _ (some-over (columnsOf v)) .0 z))
 
       by-key : (keyOf w ≡ ConvClass) ⊎ ((keyOf w ≡ State) ⊎ (keyOf w ≡ Base)) → n15 lim n (valueOf (keyOf w) v) ≡ true → N15 (lim .rows) n (pair w v)
       by-key (inl k) e =
@@ -310,7 +312,7 @@ module _ (w v : List ℕ) where
       by-key (inr (inr k)) e = absurd (clash e (ap (λ (x : Key). n15 lim n (valueOf x v)) k))
 
       back : N15 (lim .rows) n (pair w v) → n15 lim n (valueOf (keyOf w) v) ≡ true
-      back (m, (k, es, f, c)) = ap (n15 lim n) (read-as State m ∙ row-reads k es v f .1) ∙ row-over lim n (anyOf overColumn es) c
+      back (m, (k, es, f, c)) = ap (n15 lim n) (read-as State m ∙ row-reads k es v f .1) ∙ over-row lim n (anyOf overColumn es) _ (some-over es) .1 c
 
 -- ## A line before CHARMAP
 

@@ -1,8 +1,9 @@
 -- WHICH TEXTS ARE TABLES: document 01's 'Table text', 'State rows' and 'Mapping' as sentences. There is no reader in it: no place in a line, no order of tests.
 -- A form `X .. s r` says that s is an X and then r; one with s alone, that s is an X to its end. Blanks stand before a token (`Token`) and at the end.
 -- Contents: lines, tokens, lines of words, mapping lines, header lines, known keys and values, state rows, a text, numbers 10, 12, 14 and 15.
--- The loader takes just these, with these values: each form in proofs/LinesRead, SeriesRead, MappingRead, HeaderRead, ValueRead, RowRead, RowWritten,
--- FormsRead, what rows say in RowSays, whole texts in TextRead (`accepted-exactly`), the numbers in NumbersRead, table K and K with every liberty in TextCases.
+-- The loader takes just these, with these values. Each form: proofs/LinesRead, SeriesRead, MappingRead, HeaderRead, ValueRead, RowRead, RowWritten, FormsRead;
+-- what rows say, and which entries 14 and 15 name: RowSays, RowEntries; whole texts: TextRead (`accepted-exactly`); the numbers: NumbersRead;
+-- table K, and K with every liberty: TextCases.
 use Prim.Native.Nat.{ℕ, _+_, _*_, _<_, _≤_}
 use mathlib.Core.Path.{_≡_}
 use mathlib.Core.Logic.{_⊎_}
@@ -14,8 +15,7 @@ use Rattle.lists.specs.Pick.{pick}
 use Rattle.lists.specs.Order.{All, In}
 use Rattle.lists.specs.Ascii.{ascii}
 use Rattle.table.specs.Meaning.{Line, Table, same}
-use Rattle.table.specs.Rules.{anyOf}
-use Rattle.table.specs.Row.{meaning, laterColumn, overColumn, rowOf}
+use Rattle.table.specs.Row.{meaning, rowOf}
 use Rattle.table.specs.declared.header.Column.{Column}
 use Rattle.table.specs.declared.header.Key.{Key}
 use Rattle.table.specs.declared.header.Key.the-variants.{CodeSetName, CurMin, CurMax, ConvClass, SubChar, SubChar1, State, Base, Other}
@@ -272,13 +272,21 @@ SaysElse w es b v =
 abbrev pub RowSays : List Column → ℕ → ℕ → Type 0
 RowSays es b v = SaysElse 0 es b v
 
+-- 14 of an entry: letter `s`, or an end with a next row other than 0
+abbrev pub LaterEntry : Column → Type 0
+LaterEntry e = (e .kind ≡ 5) ⊎ ((e .kind ≡ 0 → ⊥) × (e .next ≡ 256 → ⊥) × (e .next ≡ 0 → ⊥))
+
+-- 15 of an entry: a falling range, or a next row over 7f
+abbrev pub OverEntry : Column → Type 0
+OverEntry e = (e .hi < e .lo) ⊎ ((e .next ≡ 256 → ⊥) × (127 < e .next))
+
 -- row n of a text: `initial` may open row 0, and 14 and 15 name none of its entries
 pub record StateRow (n : ℕ) (es : List Column) (v : List ℕ) : Type 0 where
   pub word : ℕ
   pub form : RowValue word es v
   pub opening : (word ≡ 0) ⊎ ((word ≡ 1) × (n ≡ 0))
-  pub built : anyOf laterColumn es ≡ false
-  pub ranged : anyOf overColumn es ≡ false
+  pub built : All (λ e. LaterEntry e → ⊥) es
+  pub ranged : All (λ e. OverEntry e → ⊥) es
 
 abbrev pub StateRows : ℕ → List (List Column) → List (List ℕ) → Type 0
 StateRows n [] [] = Unit {0}
@@ -382,9 +390,9 @@ Fit Other v = Unit {0}
 abbrev pub N12 : Pair → Type 0
 N12 p = (k : Key) × (p .key ≡ keyText k) × (Fit k (p .value) → ⊥)
 
--- 14 of a row: `surrogates`, `initial` off row 0, an entry with letter `s` or an end with a next row other than 0
+-- 14 of a row: `surrogates`, `initial` off row 0, such an entry
 abbrev pub LaterRow : ℕ → List ℕ → Type 0
-LaterRow n v = (k : ℕ) × (es : List Column) × RowValue k es v × ((k ≡ 2) ⊎ (((k ≡ 1) × (1 ≤ n)) ⊎ (anyOf laterColumn es ≡ true)))
+LaterRow n v = (k : ℕ) × (es : List Column) × RowValue k es v × ((k ≡ 2) ⊎ (((k ≡ 1) × (1 ≤ n)) ⊎ ((e : Column) × In e es × LaterEntry e)))
 
 -- 14 of a header line: icu:base, class DBCS or EBCDIC_STATEFUL, such a row
 abbrev pub LaterPair : ℕ → Pair → Type 0
@@ -399,7 +407,7 @@ N14 Header n s = Keyed (LaterPair n) Header s
 N14 Mappings n s = CharmapLine s ⊎ LaterMapping s
 N14 Ended n s = CharmapLine s
 
--- 15: a row with a falling range or a next row over 7f, or one row more than the limit
+-- 15: a row with such an entry, or one row more than the limit
 abbrev pub N15 : ℕ → ℕ → Pair → Type 0
 N15 limit n p =
-    (p .key ≡ keyText State) × ((k : ℕ) × (es : List Column) × RowValue k es (p .value) × ((anyOf overColumn es ≡ true) ⊎ (limit ≤ n)))
+    (p .key ≡ keyText State) × ((k : ℕ) × (es : List Column) × RowValue k es (p .value) × (((e : Column) × In e es × OverEntry e) ⊎ (limit ≤ n)))

@@ -1,5 +1,5 @@
 -- State rows as the loader reads them: a list, maybe empty, of entries `number [- number] [: number] [. [letter]]` with commas between (document 004).
--- Which byte strings are rows, Grammar.antt says; what an entry means, and which ones 14 and 15 name, stands here.
+-- Which byte strings are rows, and which entries 14 and 15 name, Grammar.antt says; what an entry means stands here.
 use Prim.Native.Nat.{ℕ, zero, suc, _+_, _*_, _-_, _<_, _≤_}
 use mathlib.Core.List.{List, [], _∷_, _++_}
 use mathlib.Core.Bool.{Bool, true, false}
