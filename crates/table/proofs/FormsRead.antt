@@ -1,4 +1,4 @@
--- Lines behind CHARMAP and behind END CHARMAP: each form is read exactly where the grammar says so, and 10 is given where none of them holds.
+-- Lines behind CHARMAP and behind END CHARMAP: each form of the grammar is read as itself, and what is read is of the grammar.
 use Prim.Native.Nat.{ℕ, _+_}
 use mathlib.Core.Path.{_≡_, refl, _∙_}
 use mathlib.Core.Logic.{_⊎_, inl, inr}

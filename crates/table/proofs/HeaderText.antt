@@ -1,4 +1,7 @@
 -- What a header says, and what reading it has given: the same, both ways, and one table for one header.
+-- in-order        the lines so far in the text's order       header-said      what was read up to CHARMAP is what the header says
+-- key-asked       no condition holds at a line of it         nothing-absent   nor at CHARMAP
+-- says-one        one header says one table
 use Prim.Native.Nat.{ℕ, suc, _+_, _-_, _<_, _≤_}
 use mathlib.Core.Path.{_≡_, refl, sym, ap, _∙_, subst}
 use mathlib.Core.Logic.{_⊎_, inl, inr}

@@ -1,4 +1,6 @@
 -- What the lines of a header have given so far, key by key, by the grammar: none yet, or one value of its form; and the rows.
+-- key-means    which key a word is                       Held    what the head and the rows hold of the lines so far, the last one first
+-- key-passes   a line that passes the conditions of the grammar: the head with its value holds one line more
 use Prim.Native.Nat.{ℕ, suc, _+_, _≤_}
 use mathlib.Core.Path.{_≡_, refl, sym, ap, _∙_, subst}
 use mathlib.Core.Logic.{_⊎_, inl, inr}
@@ -74,7 +76,7 @@ key-means w =
 pub record Slot (n : ℕ) (P : List ℕ → Type 0) (vs : List (List ℕ)) : Type 0 where
   pub either : ((n ≡ 0) × (vs ≡ [])) ⊎ ((1 ≤ n) × ((v : List ℕ) × (vs ≡ v ∷ []) × P v))
 
-pub none-yet : (n : ℕ) (P : List ℕ → Type 0) (vs : List (List ℕ)) → Slot n P vs → n ≡ 0 → vs ≡ []
+none-yet : (n : ℕ) (P : List ℕ → Type 0) (vs : List (List ℕ)) → Slot n P vs → n ≡ 0 → vs ≡ []
 none-yet n P vs s z = by-slot (s .either)
   where
     by-slot : ((n ≡ 0) × (vs ≡ [])) ⊎ ((1 ≤ n) × ((v : List ℕ) × (vs ≡ v ∷ []) × P v)) → vs ≡ []

@@ -1,4 +1,5 @@
--- A state row of the grammar is read as its entries, with the word that opens it.
+-- A state row of the grammar is read as its entries, with the word that opens it: `row-reads`. The way back is in RowWritten.antt.
+-- `To`, `Next` and `Kind` are one form, a sign and something behind it or nothing (`Optional`), so that each law of them is said once.
 use Prim.Native.Nat.{ℕ, zero, suc, _+_, _*_, _<_, _≤_}
 use mathlib.Core.Path.{_≡_, refl, sym, ap, _∙_}
 use mathlib.Core.Logic.{_⊎_, inl, inr}

@@ -1,4 +1,6 @@
 -- Tokens `\xhh` and `<U..>`, and series of them with `+` or without: what the grammar has is read, and what is read the grammar has.
+-- byte-reader, point-reader     the two readers of tokens         series-read, series-written    series of any such tokens
+-- bytes-read, bytes-written     series of bytes                   points-counted                 code points, as `pointsMore` counts them
 use Prim.Native.Nat.{ℕ, zero, suc, _+_, _*_, _<_, _≤_}
 use mathlib.Core.Path.{_≡_, refl, sym, ap, _∙_, subst}
 use mathlib.Core.Logic.{inl, inr}

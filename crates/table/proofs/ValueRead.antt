@@ -1,4 +1,6 @@
 -- Values of the known keys but icu:state: a value of the grammar is read as what it is, and what is read is such a value, or unfit.
+-- name-reads, name-cases; class-reads, class-cases; min-reads, min-cases; max-reads, max-cases; sub-reads, sub-cases; sub1-reads, sub1-cases
+-- bytes-are    the values of `\xhh` are bytes
 use Prim.Native.Nat.{ℕ, _+_, _-_, _/_, _<_, _≤_}
 use mathlib.Core.Path.{_≡_, refl, sym, ap, _∙_, subst}
 use mathlib.Core.Logic.{_⊎_, inl, inr}
