@@ -21,6 +21,7 @@ use Rattle.table.specs.Entry.{entryOf, lineIn, less}
 use Rattle.table.specs.Memory.{sorted, filled, sub1In, recordOf, pieces, tableIn, Form, Proper}
 use Rattle.table.specs.declared.valid.Record.{Record}
 use Rattle.table.proofs.Packing.{unpack}
+use Rattle.table.proofs.Every.{none-of}
 use Rattle.table.specs.Progress.{GoodLine}
 use Rattle.table.proofs.LineLaws.{line-entry, keeps-good, form-held, same-is, is-same}
 use Rattle.table.proofs.ValidLaws.{SameTable, sub-length, back-sub1}
@@ -94,15 +95,6 @@ module _ (t : Table) (p : Proper t) (k : Keeps limits t) (rec : Record) (states 
   }
 
 -- T9 of every two lines
-none-of : {A : Type 0} (f : A → Bool) (l : List A) → anyOf f l ≡ false → All (λ x. f x ≡ false) l
-unfolding anyOf
-none-of f [] e = tt
-none-of f (x ∷ l) e = go (none-of f l) (f x) refl e
-  where
-    go : (anyOf f l ≡ false → All (λ y. f y ≡ false) l) → (b : Bool) → f x ≡ b → pick b true (anyOf f l) ≡ false → (f x ≡ false) × All (λ y. f y ≡ false) l
-    go ih true q e = absurd (clash refl e)
-    go ih false q e = (q, ih e)
-
 abbrev Differ : Line → Line → Type 0
 Differ a b = (sharesBytes b a ≡ false) × (sharesPoint b a ≡ false)
 

@@ -12,6 +12,7 @@ pub mod TextLaws
 pub mod LinesLaws
 pub mod MappingLaws
 pub mod MappingCases
+pub mod Every
 pub mod EntryLaws
 pub mod Sorted
 pub mod Inserted
@@ -35,7 +36,6 @@ pub mod ValueRead
 pub mod KeysHeld
 pub mod HeaderText
 pub mod FormsRead
-pub mod Every
 pub mod LowestLaws
 pub mod Judged
 pub mod InGrammar

@@ -1,7 +1,6 @@
 -- A stored line and the line itself: the rules in numbers, one form for one line.
 use mathlib.Core.Path.{_≡_, refl, sym, ap, _∙_, subst}
 use mathlib.Core.Bool.{Bool, true, false}
-use mathlib.Core.Logic.{inl, inr}
 use mathlib.Core.Option.{Option, none, some}
 use mathlib.Core.List.{List, [], _∷_, map}
 use Prim.Native.Nat.{ℕ, zero, suc, _+_, _-_, _*_, _/_, _%_, _<_, _≤_}
@@ -11,7 +10,7 @@ use lib.Dec.{ltb, leb, eqb}
 use lib.ListN.{length, take, getD, length-map}
 use borrow.Author.Tests.{eqb-true, eqb-false, eq-eqb, ne-eqb, leb-true, le-leb, lt-leb, ltb-true}
 use Rattle.lists.specs.Pick.{pick}
-use Rattle.lists.specs.Order.{All, In, firstOf, sort}
+use Rattle.lists.specs.Order.{All, firstOf, sort}
 use Rattle.lists.proofs.Order.{all-in, all-map, all-of, in-sort, sort-in, sort-length}
 use Rattle.lists.proofs.Choice.{same-test, pick-false, pick-self, both-swap}
 use Rattle.lists.proofs.Chains.{bar-first, bar-rest, either-first, either-rest, neither}
@@ -32,6 +31,7 @@ use Rattle.table.specs.declared.valid.Record.{Record}
 use Rattle.table.specs.declared.store.Found.{Found}
 use Rattle.table.specs.declared.store.Found.the-variants.{Hit, Nothing}
 use Rattle.table.proofs.EntryLaws.{read-sym, write-sym}
+use Rattle.table.proofs.Every.{any-in, in-any}
 use Rattle.table.proofs.Sorted.{sorted-rising, sorted-apart}
 use Rattle.table.proofs.StoreLaws.{held-is, read-sorted, write-sorted}
 use Rattle.table.proofs.Packing.{length-unpacked, unpacked-bytes, unpack, pack-unpack, pack-one-way, packed-padded}
@@ -528,25 +528,6 @@ module _ (l : Line) (g : GoodLine l) where
   writes-line u = (λ t. pick (eqb (entry-point l g t) u) (entry-writes l g t) false) ∙ both-swap (eqb (l .point) u) (isWritten l)
 
 -- some line of a list, by those that are stored
-any-in : {A : Type 0} (f : A → Bool) (l : List A) → anyOf f l ≡ true → (x : A) × (In x l × (f x ≡ true))
-unfolding anyOf
-any-in f [] h = absurd (clash h refl)
-any-in {A} f (x ∷ l) h = go (f x) refl (any-in f l) h
-  where
-    go : (t : Bool) → f x ≡ t → (anyOf f l ≡ true → (y : A) × (In y l × (f y ≡ true))) → pick t true (anyOf f l) ≡ true → (y : A) × (In y (x ∷ l) × (f y ≡ true))
-    go true p ih q = (x, (inl refl, p))
-    go false p ih q = let r = ih q in (r .0, (inr (r .1 .0), r .1 .1))
-
-in-any : {A : Type 0} (f : A → Bool) (x : A) (l : List A) → In x l → f x ≡ true → anyOf f l ≡ true
-unfolding anyOf
-in-any f x [] i h = absurd i
-in-any {A} f x (y ∷ l) (inl e) h = ap (λ (t : Bool). pick t true (anyOf f l)) (subst (λ (z : A). f z ≡ true) e h)
-in-any f x (y ∷ l) (inr i) h = go (f y) (in-any f x l i h)
-  where
-    go : (t : Bool) → anyOf f l ≡ true → pick t true (anyOf f l) ≡ true
-    go true q = refl
-    go false q = q
-
 any-sorted : (f : Entry → Bool) (l : List Entry) → anyOf f (sort less l) ≡ anyOf f l
 any-sorted f l =
     same-test (anyOf f (sort less l)) (anyOf f l)

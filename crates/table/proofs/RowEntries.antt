@@ -1,43 +1,32 @@
 -- The entries that 14 and 15 name: the tests of the reader hold of just these.
-use mathlib.Core.Path.{_≡_, refl, subst}
+use mathlib.Core.Path.{_≡_, refl}
 use mathlib.Core.Logic.{inl, inr, _↔_}
 use mathlib.Core.Bool.{Bool, true, false}
-use mathlib.Core.List.{List, [], _∷_}
+use mathlib.Core.List.{List}
 use lib.Dec.{ltb, eqb}
 use borrow.Author.Tests.{lt-ltb, eqb-true, eqb-false, ne-eqb, ltb-true}
 use Rattle.lists.specs.Pick.{pick}
 use Rattle.lists.specs.Order.{All, In}
 use Rattle.lists.proofs.Laws.{clash, not-yes}
+use Rattle.lists.proofs.Order.{all-map, all-in}
 use Rattle.lists.proofs.Cases.{pick-case}
 use Rattle.lists.proofs.Choice.{always}
-use Rattle.lists.proofs.Chains.{either-first, either-rest, neither}
 use Rattle.table.specs.Rules.{anyOf}
 use Rattle.table.specs.Row.{laterColumn, overColumn}
 use Rattle.table.specs.Grammar.{LaterEntry, OverEntry}
 use Rattle.table.specs.declared.header.Column.{Column}
+use Rattle.table.proofs.Every.{any-in, in-any, none-of}
 
 -- a test that holds of just the P holds of some element, or of none
 module _ {A : Type 0} (f : A → Bool) (P : A → Type 0) (is : (x : A) → (f x ≡ true) ↔ P x) where
-  pub none-is : (l : List A) → (anyOf f l ≡ false) ↔ All (λ x. P x → ⊥) l
-  unfolding anyOf
-  none-is [] = (λ e. tt, λ a. refl)
-  none-is (x ∷ l) = (
-    λ e. (λ p. clash (is x .1 p) (either-first (f x) (anyOf f l) e), none-is l .0 (either-rest (f x) (anyOf f l) e)),
-    λ a. neither (f x) (anyOf f l) (not-yes (f x) (λ e. a .0 (is x .0 e))) (none-is l .1 (a .1)),
+  none-is : (l : List A) → (anyOf f l ≡ false) ↔ All (λ x. P x → ⊥) l
+  none-is l = (
+    λ e. let g : (x : A) → f x ≡ false → P x → ⊥ = λ x h p. clash (is x .1 p) h in all-map g l (none-of f l e),
+    λ a. not-yes (anyOf f l) (λ e. let r = any-in f l e in all-in (λ x. P x → ⊥) (r .0) l a (r .1 .0) (is (r .0) .0 (r .1 .1))),
   )
 
-  pub some-is : (l : List A) → (anyOf f l ≡ true) ↔ ((x : A) × In x l × P x)
-  unfolding anyOf
-  some-is [] = (λ e. absurd (clash e refl), λ s. absurd (s .1))
-  some-is (x ∷ l) = (there (f x) refl (some-is l .0), back (some-is l .1))
-    where
-      there : (b : Bool) → f x ≡ b → (anyOf f l ≡ true → (y : A) × In y l × P y) → pick b true (anyOf f l) ≡ true → (y : A) × In y (x ∷ l) × P y
-      there true e ih h = (x, inl refl, is x .0 e)
-      there false e ih h = let (y, i, p) = ih h in (y, inr i, p)
-
-      back : (((y : A) × In y l × P y) → anyOf f l ≡ true) → (y : A) × In y (x ∷ l) × P y → pick (f x) true (anyOf f l) ≡ true
-      back ih (y, inl e, p) = rw (is x .1 (subst P e p))
-      back ih (y, inr i, p) = rw (ih (y, i, p)) (always (f x))
+  some-is : (l : List A) → (anyOf f l ≡ true) ↔ ((x : A) × In x l × P x)
+  some-is l = (λ e. let r = any-in f l e in (r .0, r .1 .0, is (r .0) .0 (r .1 .1)), λ s. in-any f (s .0) l (s .1) (is (s .0) .1 (s .2)))
 
 later-is : (e : Column) → (laterColumn e ≡ true) ↔ LaterEntry e
 unfolding laterColumn
