@@ -38,7 +38,7 @@ use Rattle.table.proofs.Judged.{tableWith}
 use Rattle.table.proofs.ValueRead.{name-reads, min-reads, max-reads, class-reads, sub-reads, sub1-reads, bytes-are}
 use Rattle.table.proofs.RowRead.{row-reads}
 use Rattle.table.proofs.RowEntries.{none-later, none-over}
-use Rattle.table.proofs.KeysHeld.{pair, KeyMeans, Slot, flag, ClassOf, Subchar1Of, Slots, RowsHeld, Held}
+use Rattle.table.proofs.KeysHeld.{pair, KeyMeans, Given, Slot, flag, ClassOf, Subchar1Of, Slots, RowsHeld, Held}
 
 -- ## The lines of a header, the last one first, and in the text's order
 
@@ -59,7 +59,7 @@ slot-reversed : {n : ℕ} {P : List ℕ → Type 0} (k : Key) (ps : List Pair) �
 unfolding valuesOf
 slot-reversed {n} {P} k ps s = by-slot (s .either)
   where
-    by-slot : ((n ≡ 0) × (valuesOf k ps ≡ [])) ⊎ ((1 ≤ n) × ((v : List ℕ) × (valuesOf k ps ≡ v ∷ []) × P v)) → Slot n P (valuesOf k (reverse ps))
+    by-slot : Given n P (valuesOf k ps) → Slot n P (valuesOf k (reverse ps))
     by-slot (inl (z, e)) = record { either = inl (z, none-reversed k ps e) }
     by-slot (inr (one, (v, e, f))) = record { either = inr (one, (v, values-reverse k ps [] ∙ ap reverse e, f)) }
 
@@ -92,14 +92,14 @@ in-order h rows ps (s, r) = (
 given-once : (n : ℕ) (P : List ℕ → Type 0) (vs : List (List ℕ)) → Slot n P vs → 1 ≤ n → (v : List ℕ) × (vs ≡ v ∷ []) × P v
 given-once n P vs s one = by-slot (s .either)
   where
-    by-slot : ((n ≡ 0) × (vs ≡ [])) ⊎ ((1 ≤ n) × ((v : List ℕ) × (vs ≡ v ∷ []) × P v)) → (v : List ℕ) × (vs ≡ v ∷ []) × P v
+    by-slot : Given n P vs → (v : List ℕ) × (vs ≡ v ∷ []) × P v
     by-slot (inl (z, e)) = absurd (omega arith)
     by-slot (inr (one, g)) = g
 
 unset : (n : ℕ) (P : List ℕ → Type 0) (vs : List (List ℕ)) → Slot n P vs → vs ≡ [] → n ≡ 0
 unset n P vs s e = by-slot (s .either)
   where
-    by-slot : ((n ≡ 0) × (vs ≡ [])) ⊎ ((1 ≤ n) × ((v : List ℕ) × (vs ≡ v ∷ []) × P v)) → n ≡ 0
+    by-slot : Given n P vs → n ≡ 0
     by-slot (inl (z, x)) = z
     by-slot (inr (one, (v, x, f))) = absurd (let k : _≡_ {A = ℕ} 0 1 = ap length (sym e ∙ x) in omega arith)
 
@@ -113,7 +113,7 @@ sub1-some b = let k : 1 + b - 1 ≡ b = omega arith in rw (ne-eqb (1 + b) 0 (λ 
 sub1-says : (n : ℕ) (ps : List Pair) → Slot n (Subchar1Of n) (valuesOf SubChar1 ps) → Perhaps (sub1In n) ps
 sub1-says n ps s = by-slot (s .either)
   where
-    by-slot : ((n ≡ 0) × (valuesOf SubChar1 ps ≡ [])) ⊎ ((1 ≤ n) × ((v : List ℕ) × (valuesOf SubChar1 ps ≡ v ∷ []) × Subchar1Of n v)) → Perhaps (sub1In n) ps
+    by-slot : Given n (Subchar1Of n) (valuesOf SubChar1 ps) → Perhaps (sub1In n) ps
     by-slot (inl (z, e)) = subst (λ (m : ℕ). Perhaps (sub1In m) ps) (sym z) e
     by-slot (inr (one, (v, e, (b, k, f)))) = subst (λ (o : Option ℕ). Perhaps o ps) (sym (ap sub1In k ∙ sub1-some b)) (v, e, f)
 
@@ -332,7 +332,7 @@ module _ (lim : Limits) (h : Head) (rows : List (List ℕ)) (ps qs : List Pair) 
 present : (n : ℕ) (P : List ℕ → Type 0) (vs : List (List ℕ)) (v : List ℕ) → Slot n P vs → vs ≡ v ∷ [] → 1 ≤ n
 present n P vs v s e = by-slot (s .either)
   where
-    by-slot : ((n ≡ 0) × (vs ≡ [])) ⊎ ((1 ≤ n) × ((v : List ℕ) × (vs ≡ v ∷ []) × P v)) → 1 ≤ n
+    by-slot : Given n P vs → 1 ≤ n
     by-slot (inl (z, x)) = absurd (let k : _≡_ {A = ℕ} 1 0 = ap length (sym e ∙ x) in omega arith)
     by-slot (inr (one, g)) = one
 

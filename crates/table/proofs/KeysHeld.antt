@@ -33,8 +33,8 @@ use Rattle.table.specs.declared.header.Value.the-variants.{Unfit, Any, N
 use Rattle.table.specs.declared.header.Head.{Head}
 use Rattle.table.proofs.LineLaws.{same-is}
 use Rattle.table.proofs.Packing.{unpack}
-use Rattle.table.proofs.ValueRead.{name-cases, min-cases, max-cases, class-cases, sub-cases, sub1-cases, bytes-are}
-use Rattle.table.proofs.RowWritten.{row-cases}
+use Rattle.table.proofs.ValueRead.{name-cases, min-cases, max-cases, ClassCase, class-cases, sub-cases, sub1-cases, bytes-are}
+use Rattle.table.proofs.RowWritten.{RowCase, row-cases}
 use Rattle.table.proofs.RowEntries.{none-later, none-over}
 
 abbrev pub pair : List ℕ → List ℕ → Pair
@@ -73,13 +73,16 @@ key-means w =
 -- ## What is kept, key by key
 
 -- a once-only key: not given yet (the number kept for it is 0), or given once, with a value of its form
+abbrev pub Given : ℕ → (List ℕ → Type 0) → List (List ℕ) → Type 0
+Given n P vs = ((n ≡ 0) × (vs ≡ [])) ⊎ ((1 ≤ n) × ((v : List ℕ) × (vs ≡ v ∷ []) × P v))
+
 pub record Slot (n : ℕ) (P : List ℕ → Type 0) (vs : List (List ℕ)) : Type 0 where
-  pub either : ((n ≡ 0) × (vs ≡ [])) ⊎ ((1 ≤ n) × ((v : List ℕ) × (vs ≡ v ∷ []) × P v))
+  pub either : Given n P vs
 
 none-yet : (n : ℕ) (P : List ℕ → Type 0) (vs : List (List ℕ)) → Slot n P vs → n ≡ 0 → vs ≡ []
 none-yet n P vs s z = by-slot (s .either)
   where
-    by-slot : ((n ≡ 0) × (vs ≡ [])) ⊎ ((1 ≤ n) × ((v : List ℕ) × (vs ≡ v ∷ []) × P v)) → vs ≡ []
+    by-slot : Given n P vs → vs ≡ []
     by-slot (inl (a, b)) = b
     by-slot (inr (a, b)) = absurd (omega arith)
 
@@ -229,9 +232,7 @@ module _ (lim : Limits) (h : Head) (rows : List (List ℕ)) (ps : List Pair) (v 
       by-word w q e (inr (inr (inr (inl i)))) s = later (h .rows) (valueOf ConvClass v) (e ∙ ap className i) built
       by-word w q e (inr (inr (inr (inr i)))) s = absurd i
 
-      by-case : (valueOf ConvClass v ≡ Unfit)
-          ⊎ ((w : List ℕ) × Quoted w v × (valueOf ConvClass v ≡ className w) × In w classes)
-          → Slots h ps → After (keyText ConvClass) (valueOf ConvClass v)
+      by-case : ClassCase v → Slots h ps → After (keyText ConvClass) (valueOf ConvClass v)
       by-case (inl u) s = unfit (valueOf ConvClass v) u fit
       by-case (inr (w, q, e, i)) s = by-word w q e i s
 
@@ -257,9 +258,7 @@ module _ (lim : Limits) (h : Head) (rows : List (List ℕ)) (ps : List Pair) (v 
   unfolding keep keepRow valuesOf same
   state-passes again fit built ranged = by-case (row-cases v)
     where
-      by-case : (valueOf State v ≡ Unfit)
-          ⊎ ((k : ℕ) × (l : Bool) × (o : Bool) × (valueOf State v ≡ Row k l o) × RowValue k (columnsOf v) v × (l ≡ anyOf laterColumn (columnsOf v)) × (o ≡ anyOf overColumn (columnsOf v)))
-          → After (keyText State) (valueOf State v)
+      by-case : RowCase v → After (keyText State) (valueOf State v)
       by-case (inl u) = unfit (valueOf State v) u fit
       by-case (inr (k, l, o, e, f, x, y)) =
           let r = row-passed lim (h .rows) k l o v f x y (sym (ap (n14 (h .rows)) e) ∙ built) (sym (ap (n15 lim (h .rows)) e) ∙ ranged) in

@@ -47,9 +47,9 @@ line-first l s t a (inr (inr (e, k, some))) =
     ap linesOf e ∙ line-last l a some ∙ ap (λ (r : List (List ℕ)). l ∷ r) (sym (ap linesOf k ∙ lines-none))
 
 -- a text of these lines is read as them
-pub lines-read : (ls : List (List ℕ)) (s : List ℕ) → Lines ls s → linesOf s ≡ ls
-lines-read [] s e = ap linesOf e ∙ lines-none
-lines-read (l ∷ ls) s (t, a, e, r) = line-first l s t a e ∙ ap (λ (x : List (List ℕ)). l ∷ x) (lines-read ls t r)
+pub lines-reads : (ls : List (List ℕ)) (s : List ℕ) → Lines ls s → linesOf s ≡ ls
+lines-reads [] s e = ap linesOf e ∙ lines-none
+lines-reads (l ∷ ls) s (t, a, e, r) = line-first l s t a e ∙ ap (λ (x : List (List ℕ)). l ∷ x) (lines-reads ls t r)
 
 -- one byte more before the first line
 plain-more : (b : ℕ) (l t : List ℕ) → crBefore b (l ++ (10 ∷ t)) ≡ false → EndsPlain l → EndsPlain (b ∷ l)
@@ -104,4 +104,4 @@ lines-written (b ∷ d ∷ s) = line-more b d s (lines-written (d ∷ s)) (lines
 
 -- which lines a text has
 pub lines-iff : (s : List ℕ) (ls : List (List ℕ)) → (linesOf s ≡ ls) ↔ Lines ls s
-lines-iff s ls = (λ e. subst (λ (x : List (List ℕ)). Lines x s) e (lines-written s), lines-read ls s)
+lines-iff s ls = (λ e. subst (λ (x : List (List ℕ)). Lines x s) e (lines-written s), lines-reads ls s)

@@ -24,11 +24,11 @@ use Rattle.table.specs.Mapping.{Form, noForm, reserved, blank, ending, m
 use Rattle.table.specs.Numbers.{Cond, cond, numberOf, n11, n12, n14, n15, rowLater, rowOver, keyConditions, charmapConditions, mappingConditions}
 use Rattle.table.specs.Load.{Reading, lineAs}
 use Rattle.table.specs.FirstLine.{headerConditions, mappedConditions, lastConditions, phaseConditions, conditionsAt}
-use Rattle.table.specs.Grammar.{CharmapLine, AnyMapping, LaterMapping, Pair, Quoted, RowValue, keyText, classes, N10, Keyed, Fit, N12, LaterPair, N14, N15}
+use Rattle.table.specs.Grammar.{CharmapLine, AnyMapping, LaterMapping, Pair, Quoted, keyText, classes, N10, Keyed, Fit, N12, LaterPair, N14, N15}
 use Rattle.table.specs.declared.header.Key.{Key}
 use Rattle.table.specs.declared.header.Key.the-variants.{CodeSetName, CurMin, CurMax, ConvClass, SubChar, SubChar1, State, Base, Other}
 use Rattle.table.specs.declared.header.Value.{Value}
-use Rattle.table.specs.declared.header.Value.the-variants.{Unfit, Any, Name, Min, Max, Class, Sub, Sub1, Row, Later}
+use Rattle.table.specs.declared.header.Value.the-variants.{Unfit, Any, Name, Min, Max, Class, Sub, Sub1, Later}
 use Rattle.table.specs.declared.header.Head.{Head}
 use Rattle.table.specs.declared.header.Line.{Line as HeaderLine}
 use Rattle.table.specs.declared.header.Line.the-variants as header
@@ -39,10 +39,10 @@ use Rattle.table.specs.declared.load.Phase.the-variants.{Header, Mapping
 use Rattle.table.proofs.SeriesRead.{several}
 use Rattle.table.proofs.MappingRead.{formOf, any-mapping-reads, later-mapping-reads}
 use Rattle.table.proofs.RowRead.{row-reads}
-use Rattle.table.proofs.RowWritten.{row-cases}
+use Rattle.table.proofs.RowWritten.{RowCase, row-cases}
 use Rattle.table.proofs.RowEntries.{some-later, some-over}
 use Rattle.table.proofs.HeaderRead.{LineMeans, line-written, key-line-reads, blank-line-reads, charmap-line-reads}
-use Rattle.table.proofs.ValueRead.{name-reads, name-cases, min-reads, min-cases, max-reads, max-cases, class-reads, class-cases, sub-reads, sub-cases, sub1-reads, sub1-cases}
+use Rattle.table.proofs.ValueRead.{name-reads, name-cases, min-reads, min-cases, max-reads, max-cases, class-reads, ClassCase, class-cases, sub-reads, sub-cases, sub1-reads, sub1-cases}
 use Rattle.table.proofs.FormsRead.{FormMeans, form-written, blank-body, charmap-body, end-body, LastMeans, last-written, blank-last, charmap-last}
 use Rattle.table.proofs.KeysHeld.{pair, KeyMeans, key-means}
 
@@ -247,12 +247,6 @@ module _ (w v : List ℕ) where
       by-known (inl m) = m ∙ ap keyText e
       by-known (inr m) = absurd (n (sym e ∙ m))
 
-  -- a row's value, if it is read as one
-  abbrev RowRead : Type 0
-  RowRead =
-      (valueOf State v ≡ Unfit)
-      ⊎ ((k : ℕ) × (l : Bool) × (o : Bool) × (valueOf State v ≡ Row k l o) × RowValue k (columnsOf v) v × (l ≡ anyOf laterColumn (columnsOf v)) × (o ≡ anyOf overColumn (columnsOf v)))
-
   -- 14, with n rows before it
   fourteen-pair : (n : ℕ) → (n14 n read ≡ true) ↔ LaterPair n (pair w v)
   unfolding n14 valueOf className same
@@ -268,12 +262,11 @@ module _ (w v : List ℕ) where
       by-word m x q e (inr (inr (inr (inl i)))) = inr (inl (m, inr (subst (λ (y : List ℕ). Quoted y v) i q)))
       by-word m x q e (inr (inr (inr (inr i)))) = absurd i
 
-      by-class : w ≡ keyText ConvClass → (valueOf ConvClass v ≡ Unfit) ⊎ ((x : List ℕ) × Quoted x v × (valueOf ConvClass v ≡ className x) × In x classes)
-          → n14 n (valueOf ConvClass v) ≡ true → LaterPair n (pair w v)
+      by-class : w ≡ keyText ConvClass → ClassCase v → n14 n (valueOf ConvClass v) ≡ true → LaterPair n (pair w v)
       by-class m (inl u) e = absurd (clash e (ap (n14 n) u))
       by-class m (inr (x, q, c, i)) e = by-word m x q (sym (ap (n14 n) c) ∙ e) i
 
-      by-row : w ≡ keyText State → RowRead → n14 n (valueOf State v) ≡ true → LaterPair n (pair w v)
+      by-row : w ≡ keyText State → RowCase v → n14 n (valueOf State v) ≡ true → LaterPair n (pair w v)
       by-row m (inl u) e = absurd (clash e (ap (n14 n) u))
       by-row m (inr (k, l, o, c, f, x, y)) e =
           let z : rowLater n k (anyOf laterColumn (columnsOf v)) ≡ true = ap (rowLater n k) (sym x) ∙ sym (ap (n14 n) c) ∙ e in
@@ -298,7 +291,7 @@ module _ (w v : List ℕ) where
       silent : Silent (n15 lim n)
       silent = record { unfit = refl; any = refl; name = refl; min = λ d. refl; max = λ d. refl; sub = λ b m. refl; sub1 = λ b. refl }
 
-      by-row : w ≡ keyText State → RowRead → n15 lim n (valueOf State v) ≡ true → N15 (lim .rows) n (pair w v)
+      by-row : w ≡ keyText State → RowCase v → n15 lim n (valueOf State v) ≡ true → N15 (lim .rows) n (pair w v)
       by-row m (inl u) e = absurd (clash e (ap (n15 lim n) u))
       by-row m (inr (k, l, o, c, f, x, y)) e =
           let z : rowOver lim n (anyOf overColumn (columnsOf v)) ≡ true = ap (rowOver lim n) (sym y) ∙ sym (ap (n15 lim n) c) ∙ e in

@@ -201,9 +201,13 @@ from-cases v (Val k q) h =
     (λ w. inr (k, anyOf laterColumn (columnsAt v q), anyOf overColumn (columnsAt v q), refl, h w, refl, refl)) (λ _. inl refl)
 
 -- a value is no row, or the grammar's row of the entries that are read
-pub row-cases : (v : List ℕ) → (valueOf State v ≡ Unfit)
+abbrev pub RowCase : List ℕ → Type 0
+RowCase v =
+    (valueOf State v ≡ Unfit)
     ⊎ ((k : ℕ) × (l : Bool) × (o : Bool) × (valueOf State v ≡ Row k l o) × RowValue k (columnsOf v) v
     × (l ≡ anyOf laterColumn (columnsOf v)) × (o ≡ anyOf overColumn (columnsOf v)))
+
+pub row-cases : (v : List ℕ) → RowCase v
 unfolding valueOf rowIn columnsOf anyOf
 row-cases v = by-end (leb (length v) (skipAt v 0)) refl
   where

@@ -1,5 +1,5 @@
 -- A text of the grammar is read as the table that it writes, and what is read so is a text of the grammar. So: accepted exactly when.
--- text-read       a text of the grammar is read as its table              read-text      and what is read is such a text
+-- text-reads      a text of the grammar is read as its table              text-written       and what is read is such a text
 -- one-table       one text writes one table                               accepted-exactly   a text of the grammar that keeps the rules
 use Prim.Native.Nat.{ℕ, _+_, _-_, _≤_}
 use mathlib.Core.Path.{_≡_, refl, sym, ap, _∙_, subst}
@@ -37,7 +37,7 @@ use Rattle.table.proofs.LowestLaws.{lowest-fine, none-in-form}
 use Rattle.table.proofs.Judged.{tableWith}
 use Rattle.table.proofs.InGrammar.{key-form}
 use Rattle.table.proofs.Accepted.{refused-accepted, accepted-same, stop-outcome, accepted-in-grammar, accepted-keeps-rules, kept-rules-accepted}
-use Rattle.table.proofs.LinesRead.{lines-read, lines-written}
+use Rattle.table.proofs.LinesRead.{lines-reads, lines-written}
 use Rattle.table.proofs.HeaderRead.{LineMeans, line-written, key-line-reads, blank-line-reads, charmap-line-reads}
 use Rattle.table.proofs.MappingRead.{mapping-line-reads}
 use Rattle.table.proofs.FormsRead.{FormMeans, form-written, blank-body, end-body, LastMeans, last-written, blank-last}
@@ -193,9 +193,9 @@ start-held = (
     unset : {P : List ℕ → Type 0} → Slot 0 P []
     unset = record { either = inl (refl, refl) }
 
-pub read-text : (lim : Limits) (text : List ℕ) (t : Table) → readOf lim text ≡ accepted t → TableText text t
+pub text-written : (lim : Limits) (text : List ℕ) (t : Table) → readOf lim text ≡ accepted t → TableText text t
 unfolding readOf
-read-text lim text t e =
+text-written lim text t e =
     let (pairs, header, tail, are, keys, (charmap, body, last, lines, c, each, (end, rest, ends, d, blanks)), says) = header-go lim t (linesOf text) 0 emptyHead [] [] start-held e in
     let all : linesOf text ≡ header ++ (charmap ∷ (body ++ (end ∷ rest))) =
     are ∙ ap (λ (x : List (List ℕ)). header ++ x) (lines ∙ ap (λ (x : List (List ℕ)). charmap ∷ (body ++ x)) ends) in
@@ -325,10 +325,10 @@ entries-few n ps t y h = by-rows (y .rows)
     by-rows (inl (one, e)) = omega (arith, ap length e, length-map (y .entries) rowOf)
     by-rows (inr (e, x, z)) = omega (arith, ap length e)
 
-pub text-read : (lim : Limits) (text : List ℕ) (t : Table) → TableText text t → length (t .rows) ≤ lim .rows → readOf lim text ≡ accepted t
+pub text-reads : (lim : Limits) (text : List ℕ) (t : Table) → TableText text t → length (t .rows) ≤ lim .rows → readOf lim text ≡ accepted t
 unfolding readOf
-text-read lim text t x h =
-    ap (λ (ls : List (List ℕ)). loadGo inForm lim 0 ls (went start)) (lines-read (x .header ++ (x .charmap ∷ (x .body ++ (x .ending ∷ x .rest)))) text (x .lines))
+text-reads lim text t x h =
+    ap (λ (ls : List (List ℕ)). loadGo inForm lim 0 ls (went start)) (lines-reads (x .header ++ (x .charmap ∷ (x .body ++ (x .ending ∷ x .rest)))) text (x .lines))
     ∙ header-lines lim t (x .charmap) (x .body) (x .ending) (x .rest) (x .charmap-line) (x .mappings) (x .end-line) (x .nothing-else) (x .header) 0 emptyHead [] [] (x .pairs)
     start-held (x .keys) (x .says) (entries-few (lim .rows) (x .pairs) t (x .says) h)
 
@@ -338,13 +338,13 @@ text-read lim text t x h =
 pub one-table : (text : List ℕ) (t u : Table) → TableText text t → TableText text u → t ≡ u
 one-table text t u x y =
     let lim : Limits = record { rows = length (t .rows) + length (u .rows); mappings = 0; text = 0 } in
-    accepted-same t u (sym (text-read lim text t x (omega arith)) ∙ text-read lim text u y (omega arith))
+    accepted-same t u (sym (text-reads lim text t x (omega arith)) ∙ text-reads lim text u y (omega arith))
 
 -- A TEXT IS ACCEPTED EXACTLY WHEN IT IS A TEXT OF THE GRAMMAR WHOSE ROWS AND LINES KEEP THE RULES
 pub accepted-exactly : (lim : Limits) (text : List ℕ) (t : Table) → 1 ≤ lim .rows → (loadOf lim text ≡ accepted t) ↔ (TableText text t × Keeps lim t)
 accepted-exactly lim text t one = (
-  λ e. (read-text lim text t (accepted-in-grammar lim text t e), accepted-keeps-rules lim text t one e),
-  λ p. kept-rules-accepted lim text t (text-read lim text t (p .0) (rows-within lim t (p .1))) (p .1),
+  λ e. (text-written lim text t (accepted-in-grammar lim text t e), accepted-keeps-rules lim text t one e),
+  λ p. kept-rules-accepted lim text t (text-reads lim text t (p .0) (rows-within lim t (p .1))) (p .1),
 )
   where
     rows-within : (lim : Limits) (t : Table) → Keeps lim t → length (t .rows) ≤ lim .rows

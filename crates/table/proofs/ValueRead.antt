@@ -182,9 +182,13 @@ class-by v (Inside from to) (w, q, r) = by-name (class-named w)
     by-name (inl u) = inl (class-of w v from to r ∙ u)
     by-name (inr i) = inr (w, q, class-of w v from to r, i)
 
-pub class-cases : (v : List ℕ) → (valueOf ConvClass v ≡ Unfit)
+abbrev pub ClassCase : List ℕ → Type 0
+ClassCase v =
+    (valueOf ConvClass v ≡ Unfit)
     ⊎ ((w : List ℕ) × Quoted w v × (valueOf ConvClass v ≡ className w)
     × In w classes)
+
+pub class-cases : (v : List ℕ) → ClassCase v
 unfolding valueOf
 class-cases v = class-by v (quotedOf v) (quoted-written v)
 
