@@ -401,10 +401,10 @@ pub fn check(record: &[u32; 7], states: &[u16], codes: &[u32], infos: &[u32], or
     for i in 0..n {
         let (code, info) = (codes[i], infos[i]);
         let (cp, rank, length) = (info & 0x1f_ffff, info >> 21 & 7, (info >> 24) + 1);
-        if cp > 0x10_ffff || (0xd800..0xe000).contains(&cp) || rank > 3 || length > 4 {
+        if cp > 0x10_ffff || (0xd800..0xe000).contains(&cp) || !matches!(rank, 0 | 1 | 2 | 4) || length > 4 {
             return false;
         }
-        if rank == 3 {
+        if rank == 4 {
             if sub1 == 0 || length != 1 || code != (sub1 - 1) << 24 {
                 return false;
             }

@@ -1322,8 +1322,8 @@ fn forms(l: &mut List) {
             (0x3000_0000, 0x0040_0043),
             (0x3100_0000, 0x0020_0041),
             (0x3f00_0000, 0x0020_0000),
-            (0x3f00_0000, 0x0060_0044),
-            (0x3f00_0000, 0x0061_f601),
+            (0x3f00_0000, 0x0080_0044),
+            (0x3f00_0000, 0x0081_f601),
             (0x8140_0000, 0x0100_0042),
             (0x8142_5000, 0x0220_0041),
             (0x8142_5260, 0x0310_ffff),
@@ -1358,7 +1358,7 @@ fn forms(l: &mut List) {
             (0x4300_0000, 0x0020_0042),
             (0x4400_0000, 0x0040_0042),
             (0x4500_0000, 0x0020_0043),
-            (0x5000_0000, 0x0060_0043),
+            (0x5000_0000, 0x0080_0043),
         ],
         &[2, 0, 1, 5, 4, 7, 6, 3],
     );
@@ -1516,8 +1516,16 @@ fn behind_60(l: &mut List) {
     l.behind60("order outside", 60, |_, m| m.order[5] = 6);
     l.behind60("order far outside", 60, |_, m| m.order[5] = u32::MAX);
     l.behind60("|3 before |0 in order", 60, |_, m| m.order.swap(3, 4));
-    l.behind60("rank 4", 60, |_, m| m.infos[5] += 3 << 21);
-    l.behind60("rank 7", 60, |_, m| m.infos[5] += 6 << 21);
+    // Ranks of no line: all else stays right, also where the code is subchar1's.
+    for rank in [3u32, 5, 6, 7] {
+        l.behind60(&format!("|0 made rank {rank}"), 60, move |_, m| m.infos[0] += rank << 21);
+        l.behind60(&format!("|0 made rank {rank} with subchar1"), 60, move |r, m| {
+            m.infos[0] += rank << 21;
+            r[6] = 0x2e;
+        });
+        l.behind60(&format!("|1 made rank {rank}"), 60, move |_, m| m.infos[4] += (rank - 2) << 21);
+        l.behind60(&format!("|3 made rank {rank}"), 60, move |_, m| m.infos[5] += (rank - 1) << 21);
+    }
     l.behind60("length 5", 60, |_, m| m.infos[5] += 3 << 24);
     l.behind60("length 256", 60, |_, m| m.infos[5] |= 0xff00_0000);
     l.behind60("length 1 for two bytes", 60, |_, m| m.infos[5] -= 1 << 24);
@@ -1525,14 +1533,19 @@ fn behind_60(l: &mut List) {
     l.behind60("bits behind the code", 60, |_, m| m.codes[5] += 1);
     l.behind60("|0 made |1", 0, |_, m| m.infos[0] += 2 << 21);
     l.behind60("|0 made |3", 0, |_, m| m.infos[0] += 1 << 21);
-    l.behind60("|0 made |2 without subchar1", 60, |_, m| m.infos[0] += 3 << 21);
+    // Rank 4 is `|2`, whose code is subchar1's (T8).
+    l.behind60("|0 made |2 without subchar1", 60, |_, m| m.infos[0] += 4 << 21);
     l.behind60("|0 made |2 with subchar1", 0, |r, m| {
-        m.infos[0] += 3 << 21;
+        m.infos[0] += 4 << 21;
         r[6] = 0x2e;
     });
     l.behind60("|0 made |2 with another subchar1", 60, |r, m| {
-        m.infos[0] += 3 << 21;
+        m.infos[0] += 4 << 21;
         r[6] = 0x31;
+    });
+    l.behind60("|1 of two bytes made |2", 60, |r, m| {
+        m.infos[4] += 2 << 21;
+        r[6] = 0x2e;
     });
     l.behind60("T9 by bytes", 60, |_, m| m.infos[4] = 0x0120_ff0d);
     l.behind60("T9 by code point", 60, |_, m| m.infos[5] = 0x0100_2212);

@@ -1555,7 +1555,7 @@ pub fn one_change(rng: &mut Rng, table: &Table) -> Change {
         3 => rng.next() as u32,
         4 => *rng.pick(&[0, 1, 2, 3, 4, 5, 15, 16, 17, 255, 256, 257, 2047, 2048, 2049, u32::MAX]),
         5 => old.wrapping_add(1 << 24),
-        _ => old.wrapping_add(1 << 21),
+        _ => old.wrapping_add(1 << (21 + rng.below(3))),
     };
     match rng.below(5) {
         0 => {

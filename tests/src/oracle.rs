@@ -811,7 +811,7 @@ fn rank(kind: Kind) -> u32 {
         Kind::Both => 0,
         Kind::ToUnicode => 1,
         Kind::FromUnicode => 2,
-        Kind::Sub1 => 3,
+        Kind::Sub1 => 4,
     }
 }
 
@@ -906,7 +906,7 @@ pub fn meaning_of(record: &Record, memory: &Memory) -> Option<Table> {
                 0 => Kind::Both,
                 1 => Kind::ToUnicode,
                 2 => Kind::FromUnicode,
-                3 => Kind::Sub1,
+                4 => Kind::Sub1,
                 _ => return None,
             },
         });

@@ -3,22 +3,27 @@ use Prim.Native.Nat.{ℕ, _/_, _%_, _≤_}
 use native.Mathlib.Omega.{arith}
 use mathlib.Core.Path.{_≡_, sym, ap, _∙_}
 use lib.ListN.{length}
-use Rattle.table.specs.Codes.{packed, AllByte}
+use Rattle.table.specs.Codes.{packed, codeOf, AllByte}
 use Rattle.table.proofs.Packing.{packed-fits, pack-one-way}
-use Rattle.audit.specs.Audit.{Finding, entryNumber}
+use Rattle.audit.specs.Audit.{Finding, entryNumber, entryIn}
 
 module _ (f : Finding) (bytes : AllByte (f .code)) (short : length (f .code) ≤ 4) where
-  pub bits-told : entryNumber f % 4294967296 ≡ packed (f .code)
+  bits-told : entryNumber f % 4294967296 ≡ packed (f .code)
   unfolding entryNumber
   bits-told = let h = packed-fits (f .code) bytes in omega arith
 
-  pub length-told : entryNumber f / 4294967296 % 256 ≡ length (f .code)
+  length-told : entryNumber f / 4294967296 % 256 ≡ length (f .code)
   unfolding entryNumber
   length-told = let h = packed-fits (f .code) bytes in omega arith
 
-  pub cause-told : entryNumber f / 1099511627776 ≡ f .cause
+  cause-told : entryNumber f / 1099511627776 ≡ f .cause
   unfolding entryNumber
   cause-told = let h = packed-fits (f .code) bytes in omega arith
+
+  -- taken apart, it gives them back
+  pub entry-told : entryIn (entryNumber f) ≡ record { code = codeOf (f .code); cause = f .cause }
+  unfolding entryIn
+  entry-told = λ i. record { code = record { bits = bits-told i; len = length-told i }; cause = cause-told i }
 
 -- two entries of one number are one
 pub entry-one : (f g : Finding) → AllByte (f .code) → length (f .code) ≤ 4 → AllByte (g .code) → length (g .code) ≤ 4 → entryNumber f ≡ entryNumber g → f ≡ g

@@ -20,6 +20,7 @@ use Rattle.table.specs.Limits.{limits}
 use Rattle.table.specs.Codes.{before, after, codeOf, bytesOf, AllByte}
 use Rattle.table.specs.States.{endKind}
 use Rattle.table.specs.Meaning.{Table, stepsOf, same, reader}
+use Rattle.table.specs.Slices.{Slices}
 use Rattle.table.specs.Memory.{tableIn}
 use Rattle.table.specs.Valid.{valid}
 use Rattle.table.specs.declared.states.Code.{Code}
@@ -91,12 +92,12 @@ module _ (t : Table) (fallback : Bool) where
       go (inr c) l x y = absurd (clash c f)
 
 -- a call on any record and memory
-module _ (rec : Record) (states codes infos order : List ℕ) (fallback : Bool) (pos : Code) (allowance space : ℕ) where
+module _ (rec : Record) (m : Slices) (fallback : Bool) (pos : Code) (allowance space : ℕ) where
   abbrev held : Table
-  held = tableIn rec states codes infos
+  held = tableIn rec m
 
   abbrev answer : Answer
-  answer = auditTested limits rec states codes infos order fallback pos allowance space
+  answer = auditTested limits rec m fallback pos allowance space
 
   abbrev page : Page Finding (List ℕ)
   page = pageFrom (listing held fallback) allowance space (bytesOf pos)
@@ -105,7 +106,7 @@ module _ (rec : Record) (states codes infos order : List ℕ) (fallback : Bool) 
   by-ending : (R : Answer → Type 0) → (pos ≡ codeOf (bytesOf pos) → R (looked page)) → R (refused BadPosition pos) → R (refused BadTable pos) → R answer
   unfolding auditTested auditOn
   by-ending R f g h =
-      pick-case R (valid limits rec states codes infos order) (auditOn held fallback pos allowance space) (refused BadTable pos)
+      pick-case R (valid limits rec m) (auditOn held fallback pos allowance space) (refused BadTable pos)
       (λ v. pick-case R (isPosition (stepsOf held) pos) (looked page) (refused BadPosition pos) (λ p. f (position-packed (stepsOf held) pos p)) (λ p. g))
       (λ v. h)
 

@@ -1,135 +1,91 @@
--- The cause of a code by what the two look-ups found.
-use Prim.Native.Nat.{ℕ, _-_, _<_}
+-- The cause of a code by what the two look-ups found and what the conversions choose by it.
+use Prim.Native.Nat.{ℕ, _<_}
 use native.Mathlib.Omega.{arith}
-use mathlib.Core.Path.{_≡_, refl, sym, ap, _∙_}
+use mathlib.Core.Path.{_≡_, refl, sym, ap, subst, _∙_}
 use mathlib.Core.Bool.{Bool, true, false}
 use mathlib.Core.Option.{Option, none, some}
-use mathlib.Core.List.{List}
-use lib.Dec.{eqb}
-use borrow.Author.Tests.{eqb-true, eq-eqb, ne-eqb}
+use lib.Dec.{eqb, lit<}
 use Rattle.lists.specs.Pick.{pick}
-use Rattle.lists.proofs.Laws.{both, not-yes, both-left, both-right}
-use Rattle.lists.proofs.Cases.{pick-yes, pick-no}
+use Rattle.table.specs.Limits.{limits}
 use Rattle.table.specs.States.{stepAt, endKind}
 use Rattle.table.specs.Codes.{bytesOf}
-use Rattle.table.specs.Meaning.{Line, Table, same, isRead, isWritten, reader, writer}
-use Rattle.table.specs.Entry.{mk, pointIn, rankIn, extraIn, lineIn, padded, entryOk}
+use Rattle.table.specs.Meaning.{Line, Table, same, reader}
+use Rattle.table.specs.Entry.{padded}
+use Rattle.table.specs.Slices.{Slices}
 use Rattle.table.specs.Memory.{tableIn}
+use Rattle.table.specs.Valid.{valid}
+use Rattle.table.specs.Lookup.{lineFound, CodeFound, PointFound}
 use Rattle.table.specs.declared.states.Code.{Code}
-use Rattle.table.specs.declared.store.Found.{Found}
-use Rattle.table.specs.declared.store.Found.the-variants.{Hit, Nothing}
+use Rattle.table.specs.declared.lookup.Found.{Found}
 use Rattle.table.specs.declared.valid.Record.{Record}
-use Rattle.table.proofs.Packing.{unpacked-bytes}
-use Rattle.table.proofs.LineLaws.{foundLine}
-use Rattle.table.proofs.Hits.{HitLine, hit-line, miss-line, same-stored}
-use Rattle.convert.specs.Step.{writtenBy, writes}
-use Rattle.audit.specs.Audit.{Back, unread, unwritten, written, backBy, backOf, causeBy, causeOf}
-use Rattle.audit.proofs.ValidMemory.{Sound, CodeSought, PointSought, end-held, lines-good, code-found, point-found}
+use Rattle.table.proofs.HeldMemory.{code-held}
+use Rattle.table.proofs.LookupLaws.{code-reads, point-kept}
+use Rattle.convert.specs.Step.{readAs, pointIn, writtenBy, writtenIn, OwnCode, writes}
+use Rattle.convert.specs.declared.ReadAs.{ReadAs}
+use Rattle.convert.specs.declared.ReadAs.the-variants as read
+use Rattle.convert.specs.declared.WrittenAs.{WrittenAs}
+use Rattle.convert.specs.declared.WrittenAs.the-variants as written
+use Rattle.convert.proofs.LookUps.{found-writes}
+use Rattle.audit.specs.Audit.{Back, unread, backBy, backOf, causeBy, causeOf}
 
--- what the rank of a stored line says of writing
-abbrev pub writesCode : ℕ → Bool → Bool
-writesCode info fallback = pick (eqb (rankIn info) 2) fallback (eqb (rankIn info) 0)
+-- a code that no line reads, and one that reads as u
+back-none : (t : Table) (fallback : Bool) (o : Option Line) → readAs o ≡ none → backOf t fallback o ≡ unread
+back-none t fallback none e = refl
+back-none t fallback (some l) e = absurd (let z : _≡_ {A = ℕ} 0 1 = cc in omega arith)
 
-back-written : (fallback : Bool) (b i : ℕ) → backBy (writtenBy fallback (some (lineIn (mk b i)))) ≡ pick (writesCode i fallback) (written (lineIn (mk b i) .code)) unwritten
-unfolding lineIn
-back-written fallback b i = go (eqb (rankIn i) 0) refl (eqb (rankIn i) 1) refl (eqb (rankIn i) 2) refl fallback
-  where
-    go : (x : Bool) → eqb (rankIn i) 0 ≡ x → (y : Bool) → eqb (rankIn i) 1 ≡ y → (z : Bool) → eqb (rankIn i) 2 ≡ z → (f : Bool)
-        → backBy (writtenBy f (some (record { point = pointIn i; code = lineIn (mk b i) .code; indicator = pick x 0 (pick y 3 (pick z 1 2)) }))) ≡ pick (pick z f x) (written (lineIn (mk b i) .code)) unwritten
-    go true p y q true r f = absurd (let m = eqb-true (rankIn i) 0 p in let n = eqb-true (rankIn i) 2 r in omega arith)
-    go true p y q false r f = refl
-    go false p true q true r f = absurd (let m = eqb-true (rankIn i) 1 q in let n = eqb-true (rankIn i) 2 r in omega arith)
-    go false p true q false r f = refl
-    go false p false q true r true = refl
-    go false p false q true r false = refl
-    go false p false q false r f = refl
+back-some : (t : Table) (fallback : Bool) (u : ℕ) (o : Option Line) → readAs o ≡ some u → backOf t fallback o ≡ backBy (writes t fallback u)
+back-some t fallback u none e = absurd (let z : _≡_ {A = ℕ} 0 1 = cc in omega arith)
+back-some t fallback u (some l) e = let q : l .point ≡ u = cc in ap (λ (k : ℕ). backBy (writes t fallback k)) q
 
--- the line that says what becomes of the code point, against the code
-module _ (b i : ℕ) (fallback : Bool) (c : Code) where
-  abbrev Cause : ℕ → Type 0
-  Cause w = w ≡ causeBy (bytesOf c) false (backBy (writtenBy fallback (some (lineIn (mk b i)))))
+-- a code that is written has zeros in its unused bits
+pub back-padded : (rec : Record) (m : Slices) → valid limits rec m ≡ true
+    → (u : ℕ) (g : Found) → PointFound rec (m .codes) (m .infos) (m .order) u g → (w : WrittenAs) → OwnCode g w → (d : Code) → w ≡ written.Code d → padded (d .len) (d .bits) ≡ true
+back-padded rec m ok u g wrote w own d e =
+    let o = subst (OwnCode g) e own in
+    subst (λ (x : Code). padded (x .len) (x .bits) ≡ true) (o .2) (point-kept limits rec m ok u g wrote (o .0) (o .1) .its-padding)
 
-  pub writes-none : writesCode i fallback ≡ false → Cause 4
-  writes-none h = sym (ap (causeBy (bytesOf c) false) (back-written fallback b i ∙ pick-no (writesCode i fallback) _ _ h))
-
-  module _ (h : writesCode i fallback ≡ true) (ok : entryOk (mk b i) ≡ true) (small : b < 4294967296) (pad : padded (c .len) (c .bits) ≡ true) (fits : c .bits < 4294967296) where
-    written-same : causeBy (bytesOf c) false (backBy (writtenBy fallback (some (lineIn (mk b i))))) ≡ pick (pick (eqb b (c .bits)) (eqb (extraIn i) (c .len - 1)) false) 0 3
-    written-same =
-        ap (causeBy (bytesOf c) false) (back-written fallback b i ∙ pick-yes (writesCode i fallback) _ _ h)
-        ∙ ap (λ (t : Bool). pick t 0 3) (same-stored b i c ok small pad fits)
-
-    pub writes-other : ((b ≡ c .bits) → (extraIn i ≡ c .len - 1) → ⊥) → Cause 3
-    writes-other n =
-        sym (written-same
-        ∙ ap (λ (t : Bool). pick t 0 3) (not-yes _ (λ e. n (eqb-true b (c .bits) (both-left (eqb b (c .bits)) _ e)) (eqb-true (extraIn i) (c .len - 1) (both-right (eqb b (c .bits)) _ e)))))
-
-    pub writes-same : b ≡ c .bits → extraIn i ≡ c .len - 1 → Cause 0
-    writes-same p q = sym (written-same ∙ ap (λ (t : Bool). pick t 0 3) (both (eqb b (c .bits)) _ (eq-eqb b (c .bits) p) (eq-eqb (extraIn i) (c .len - 1) q)))
-
--- a code that does not come back has cause 1 where it is ended by `u`
-cause-lowest : (c : List ℕ) (u : Bool) (x : Back) → _≡_ {A = ℕ} (pick (eqb (causeBy c false x) 0) 0 (pick u 1 (causeBy c false x))) (causeBy c u x)
-cause-lowest c u unread = refl
-cause-lowest c u unwritten = refl
-cause-lowest c u (written d) = go (same d c)
-  where
-    go : (t : Bool) → _≡_ {A = ℕ} (pick (eqb (pick t 0 3) 0) 0 (pick u 1 (pick t 0 3))) (pick t 0 (pick u 1 3))
-    go true = refl
-    go false = refl
-
-module _ (rec : Record) (states codes infos order : List ℕ) (s : Sound rec states codes infos order)
+module _ (rec : Record) (m : Slices) (ok : valid limits rec m ≡ true)
     (fallback : Bool) (c : Code) (pad : padded (c .len) (c .bits) ≡ true) (fits : c .bits < 4294967296) where
   abbrev held : Table
-  held = tableIn rec states codes infos
+  held = tableIn rec m
 
   abbrev byU : Bool
-  byU = eqb (endKind (stepAt states) 0 (bytesOf c)) 3
+  byU = eqb (endKind (stepAt (m .states)) 0 (bytesOf c)) 3
 
-  cause-lines : (o : Option Line) → reader (bytesOf c) (held .lines) ≡ o → causeBy (bytesOf c) byU (backOf held fallback o) ≡ causeOf held fallback (bytesOf c)
-  unfolding causeOf
-  cause-lines o e =
-      λ i. causeBy (bytesOf c) (eqb (end-held rec states codes infos order s (bytesOf c) (unpacked-bytes (c .len) (c .bits) fits) i) 3) (backOf held fallback (sym e i))
-
-  module _ (r : Found) (sought : CodeSought rec codes infos c r) where
-    code-is : r ≡ foundLine (reader (bytesOf c) (held .lines))
-    code-is = code-found rec states codes infos order s c r pad fits sought
+  module _ (f : Found) (found : CodeFound rec (m .codes) (m .infos) c f) (r : ReadAs) (reads : pointIn r ≡ readAs (lineFound f)) where
+    cause-back : (b : Back) → backOf held fallback (lineFound f) ≡ b → causeBy (bytesOf c) byU b ≡ causeOf held fallback (bytesOf c)
+    unfolding causeOf
+    cause-back b e =
+        ap (causeBy (bytesOf c) byU) (sym e ∙ ap (backOf held fallback) (sym (code-reads limits rec m ok c f found pad)))
+        ∙ (λ i. causeBy (bytesOf c) (eqb (code-held limits rec m ok 0 (lit< tt) c fits i) 3) (backOf held fallback (reader (bytesOf c) (held .lines))))
 
     -- no line reads it
-    pub cause-unread : r ≡ Nothing → pick byU 1 2 ≡ causeOf held fallback (bytesOf c)
-    cause-unread e = cause-lines none (miss-line (reader (bytesOf c) (held .lines)) (sym code-is ∙ e))
+    pub cause-unread : r ≡ read.Nothing → pick byU 1 2 ≡ causeOf held fallback (bytesOf c)
+    cause-unread e = cause-back unread (back-none held fallback (lineFound f) (sym reads ∙ ap pointIn e))
 
-    module _ (b i : ℕ) (hit : r ≡ Hit b i) (q : Found) (point : PointSought rec codes infos order (pointIn i) q) where
-      reads-line : reader (bytesOf c) (held .lines) ≡ some (lineIn (mk b i))
-      reads-line =
-          hit-line (λ l. pick (isRead l) (same (l .code) (bytesOf c)) false) (held .lines) (lines-good rec states codes infos order s) b i (sym code-is ∙ hit) .line-is
+    -- it reads as u, which is written so
+    module _ (u : ℕ) (point : r ≡ read.Point u) (g : Found) (wrote : PointFound rec (m .codes) (m .infos) (m .order) u g)
+        (w : WrittenAs) (writes-so : writtenIn w ≡ writtenBy fallback (lineFound g)) where
+      cause-written : causeBy (bytesOf c) byU (backBy (writtenIn w)) ≡ causeOf held fallback (bytesOf c)
+      cause-written =
+          cause-back (backBy (writtenIn w))
+          (back-some held fallback u (lineFound f) (sym reads ∙ ap pointIn point)
+          ∙ ap backBy (found-writes rec m ok u g wrote fallback ∙ sym writes-so))
 
-      point-is : q ≡ foundLine (writer (pointIn i) (held .lines))
-      point-is = point-found rec states codes infos order s (pointIn i) q point
+      pub cause-subchar1 : w ≡ written.Subchar1 → pick byU 1 4 ≡ causeOf held fallback (bytesOf c)
+      cause-subchar1 e = ap (λ (x : WrittenAs). causeBy (bytesOf c) byU (backBy (writtenIn x))) (sym e) ∙ cause-written
 
-      cause-writer : (o : Option Line) → writer (pointIn i) (held .lines) ≡ o → causeBy (bytesOf c) byU (backBy (writtenBy fallback o)) ≡ causeOf held fallback (bytesOf c)
-      unfolding writes lineIn
-      cause-writer o e = ap (λ (x : Option Line). causeBy (bytesOf c) byU (backBy (writtenBy fallback x))) (sym e) ∙ cause-lines (some (lineIn (mk b i))) reads-line
+      pub cause-unwritten : w ≡ written.Nothing → pick byU 1 4 ≡ causeOf held fallback (bytesOf c)
+      cause-unwritten e = ap (λ (x : WrittenAs). causeBy (bytesOf c) byU (backBy (writtenIn x))) (sym e) ∙ cause-written
 
-      -- no line says what becomes of its code point
-      pub cause-unwritten : q ≡ Nothing → pick byU 1 4 ≡ causeOf held fallback (bytesOf c)
-      cause-unwritten e = cause-writer none (miss-line (writer (pointIn i) (held .lines)) (sym point-is ∙ e))
+      module _ (d : Code) (e : w ≡ written.Code d) where
+        cause-code : (b : Bool) → b ≡ same (bytesOf d) (bytesOf c) → pick b 0 (pick byU 1 3) ≡ causeOf held fallback (bytesOf c)
+        cause-code b s =
+            ap (λ (x : Bool). pick x 0 (pick byU 1 3)) s
+            ∙ ap (λ (x : WrittenAs). causeBy (bytesOf c) byU (backBy (writtenIn x))) (sym e) ∙ cause-written
 
-      -- a line does
-      module _ (d j : ℕ) (found : q ≡ Hit d j) where
-        writes-line : HitLine (writer (pointIn i) (held .lines)) d j
-        writes-line = hit-line (λ l. pick (isWritten l) (eqb (l .point) (pointIn i)) false) (held .lines) (lines-good rec states codes infos order s) d j (sym point-is ∙ found)
+        pub cause-home : true ≡ same (bytesOf d) (bytesOf c) → 0 ≡ causeOf held fallback (bytesOf c)
+        cause-home s = cause-code true s
 
-        pub writer-formed : entryOk (mk d j) ≡ true
-        writer-formed = writes-line .formed
-
-        module _ (w : ℕ) (other : w ≡ causeBy (bytesOf c) false (backBy (writtenBy fallback (some (lineIn (mk d j)))))) where
-          cause-by : pick (eqb w 0) 0 (pick byU 1 w) ≡ causeOf held fallback (bytesOf c)
-          cause-by =
-              ap (λ (k : ℕ). pick (eqb k 0) 0 (pick byU 1 k)) other
-              ∙ cause-lowest (bytesOf c) byU (backBy (writtenBy fallback (some (lineIn (mk d j)))))
-              ∙ cause-writer (some (lineIn (mk d j))) (writes-line .line-is)
-
-          pub cause-none : w ≡ 0 → 0 ≡ causeOf held fallback (bytesOf c)
-          cause-none e = sym (pick-yes (eqb w 0) 0 (pick byU 1 w) (eq-eqb w 0 e)) ∙ cause-by
-
-          pub cause-other : (w ≡ 0 → ⊥) → pick byU 1 w ≡ causeOf held fallback (bytesOf c)
-          cause-other e = sym (pick-no (eqb w 0) 0 (pick byU 1 w) (ne-eqb w 0 e)) ∙ cause-by
+        pub cause-other : false ≡ same (bytesOf d) (bytesOf c) → pick byU 1 3 ≡ causeOf held fallback (bytesOf c)
+        cause-other s = cause-code false s

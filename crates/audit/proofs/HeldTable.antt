@@ -9,10 +9,11 @@ use Rattle.lists.specs.Pick.{pick}
 use Rattle.lists.specs.Paging.{pageFrom}
 use Rattle.lists.proofs.Cases.{pick-yes}
 use Rattle.table.specs.Limits.{limits}
-use Rattle.table.specs.States.{stepAt, endKind}
+use Rattle.table.specs.States.{endKind}
 use Rattle.table.specs.Codes.{before, bytesOf, nextOf}
-use Rattle.table.specs.Meaning.{Line, Table, flat, stepsOf, reader}
+use Rattle.table.specs.Meaning.{Line, Table, stepsOn, stepsOf, reader}
 use Rattle.table.specs.Rules.{t9, Keeps}
+use Rattle.table.specs.Slices.{Slices}
 use Rattle.table.specs.Memory.{tableIn, Form, Proper}
 use Rattle.table.specs.Valid.{valid}
 use Rattle.table.specs.declared.states.Code.{Code}
@@ -26,7 +27,7 @@ use Rattle.audit.specs.declared.Ending.the-variants.{BadPosition, BadTab
 -- two tables with the same rows and, as members, the same lines
 module _ (t u : Table) (s : SameTable u t) (apart : t9 (t .lines) ≡ true) where
   steps-same : stepsOf u ≡ stepsOf t
-  steps-same = ap (λ (r : List (List ℕ)). stepAt (flat r)) (s .same-rows)
+  steps-same = ap stepsOn (s .same-rows)
 
   pub cause-same : (fallback : Bool) (c : List ℕ) → causeOf u fallback c ≡ causeOf t fallback c
   unfolding causeOf
@@ -53,9 +54,10 @@ module _ (t u : Table) (s : SameTable u t) (apart : t9 (t .lines) ≡ true) wher
   audit-same fallback pos allowance space = λ i. pick (isPosition (steps-same i) pos) (looked (pageFrom (listing-same fallback i) allowance space (bytesOf pos))) (refused BadPosition pos)
 
 -- a memory in the form of a table that keeps the rules
-module _ (t : Table) (p : Proper t) (k : Keeps limits t) (rec : Record) (states codes infos order : List ℕ) (f : Form limits t rec states codes infos order) where
-  pub audit-held : (fallback : Bool) (pos : Code) (allowance space : ℕ) → auditTested limits rec states codes infos order fallback pos allowance space ≡ auditOn t fallback pos allowance space
+module _ (t : Table) (p : Proper t) (k : Keeps limits t) (rec : Record) (m : Slices) (f : Form limits t rec m) where
+  pub audit-held : (fallback : Bool) (pos : Code) (allowance space : ℕ)
+      → auditTested limits rec m fallback pos allowance space ≡ auditOn t fallback pos allowance space
   unfolding auditTested
   audit-held fallback pos allowance space =
-      pick-yes (valid limits rec states codes infos order) (auditOn (tableIn rec states codes infos) fallback pos allowance space) (refused BadTable pos) (form-valid t p k rec states codes infos order f)
-      ∙ audit-same t (tableIn rec states codes infos) (held-same t p k rec states codes infos order f) (k .rule9) fallback pos allowance space
+      pick-yes (valid limits rec m) (auditOn (tableIn rec m) fallback pos allowance space) (refused BadTable pos) (form-valid limits t p k rec m f)
+      ∙ audit-same t (tableIn rec m) (held-same limits t p k rec m f) (k .rule9) fallback pos allowance space

@@ -1,6 +1,8 @@
 pub mod CodePages
 pub mod Causes
 pub mod HeldTable
+pub mod CodeCalls
+pub mod LoadedTable
 pub mod Demand3
 pub mod Starred
 pub mod ValidMemory
@@ -10,4 +12,3 @@ pub mod Tests
 pub mod Forward
 pub mod WholeCount
 pub mod EntryNumbers
-pub mod Tied

@@ -4,21 +4,25 @@ use mathlib.Core.Path.{_≡_, refl, sym, ap, _∙_}
 use mathlib.Core.Bool.{Bool, true, false}
 use mathlib.Core.Option.{some}
 use mathlib.Core.List.{List}
+use lib.Dec.{lit<}
 use lib.ListN.{length, set}
 use Rattle.lists.specs.Paging.{Listing, Page, isNone, pageFrom}
 use Rattle.lists.proofs.PageLoop.{Handed, Standing, standing-passed, standing-listed, standing-over, standing-full, standing-spent}
+use Rattle.table.specs.Limits.{limits}
 use Rattle.table.specs.States.{stepAt}
 use Rattle.table.specs.Codes.{codeOf, bytesOf}
-use Rattle.table.specs.Marks.{MarksOf, nextMarked}
+use Rattle.table.specs.Marks.{marksOf, nextMarked}
 use Rattle.table.specs.Meaning.{Table}
+use Rattle.table.specs.Slices.{Slices}
 use Rattle.table.specs.Memory.{tableIn}
+use Rattle.table.specs.Valid.{valid}
 use Rattle.table.specs.declared.states.Code.{Code}
 use Rattle.table.specs.declared.codes.Next.{Next}
 use Rattle.table.specs.declared.codes.Next.the-variants.{Found, Nothing}
 use Rattle.table.specs.declared.valid.Record.{Record}
+use Rattle.table.proofs.HeldMemory.{next-is-next}
 use Rattle.audit.specs.Audit.{Finding, findingOf, causeOf, nextBytes, listing, looked, entryNumber, lookedTo, auditedOf, spaceAfter}
 use Rattle.audit.specs.declared.Audited.{Audited}
-use Rattle.audit.proofs.ValidMemory.{Sound, next-held}
 
 finding-some : (c : List ℕ) (w : ℕ) → (w ≡ 0 → ⊥) → findingOf c w ≡ some (record { code = c; cause = w })
 finding-some c zero h = absurd (h refl)
@@ -31,9 +35,9 @@ answered a q f used count old new e h r k =
     let at : q ≡ codeOf (a .position) = e ∙ ap codeOf (sym (h .position-is)) in
     (k ∙ (λ i. lookedTo (sym (h .used-is) i) (at i) (sym (h .finished-is) i) (sym (h .count-is) i)), h .space-is)
 
-module _ (rec : Record) (states codes infos order : List ℕ) (s : Sound rec states codes infos order) (fallback : Bool) where
+module _ (rec : Record) (lent : Slices) (ok : valid limits rec lent ≡ true) (fallback : Bool) where
   abbrev held : Table
-  held = tableIn rec states codes infos
+  held = tableIn rec lent
 
   abbrev codesIn : Listing (List ℕ) Finding (List ℕ)
   codesIn = listing held fallback
@@ -45,10 +49,14 @@ module _ (rec : Record) (states codes infos order : List ℕ) (s : Sound rec sta
   abbrev pageIn : ℕ → Code → List ℕ → Page Finding (List ℕ)
   pageIn n p old = pageFrom codesIn n (length old) (bytesOf p)
 
-  module _ (marks : List ℕ) (m : MarksOf (stepAt states) marks) (n : ℕ) (p : Code) (old : List ℕ) (q : Code) (used count : ℕ) (new : List ℕ) (w : Walking n p q used count old new) where
-    next-is : (x : Next) → x ≡ nextMarked marks (stepAt states) 0 (bytesOf q) → codesIn .next (bytesOf q) ≡ nextBytes x
+  module _ (marks : List ℕ) (m : marks ≡ marksOf (stepAt (lent .states))) (n : ℕ) (p : Code) (old : List ℕ) (q : Code) (used count : ℕ) (new : List ℕ)
+      (w : Walking n p q used count old new) where
+    next-is : (x : Next) → x ≡ nextMarked marks (stepAt (lent .states)) 0 (bytesOf q) → codesIn .next (bytesOf q) ≡ nextBytes x
     unfolding listing
-    next-is x e = ap nextBytes (sym (e ∙ next-held rec states codes infos order s marks m (bytesOf q)))
+    next-is x e =
+        ap nextBytes
+        (sym (e ∙ ap (λ (l : List ℕ). nextMarked l (stepAt (lent .states)) 0 (bytesOf q)) m
+        ∙ next-is-next rec lent ok 0 (lit< tt) (bytesOf q)))
 
     -- what is handed back where the loop ends here
     abbrev Ends : Bool → Type 0
@@ -59,7 +67,7 @@ module _ (rec : Record) (states codes infos order : List ℕ) (s : Sound rec sta
     ends : (f : Bool) → Handed entryNumber (pageIn n p old) (bytesOf q) f used count old new → Ends f
     ends f h k r e = answered (pageIn n p old) q f used count old new k h r e
 
-    module _ (x : Next) (e : x ≡ nextMarked marks (stepAt states) 0 (bytesOf q)) where
+    module _ (x : Next) (e : x ≡ nextMarked marks (stepAt (lent .states)) 0 (bytesOf q)) where
       pub ends-over : count < n → x ≡ Nothing → Ends true
       ends-over h z = ends true (standing-over codesIn entryNumber n (bytesOf p) old (bytesOf q) used count new w h (next-is x e ∙ ap nextBytes z))
 

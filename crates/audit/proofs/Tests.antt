@@ -1,6 +1,6 @@
 -- What an audit call answers by its two tests, 60 before 40.
 use Prim.Native.Nat.{ℕ, _<_}
-use mathlib.Core.Path.{_≡_, refl, sym, ap, _∙_, subst}
+use mathlib.Core.Path.{_≡_, refl, sym, ap, _∙_}
 use mathlib.Core.Bool.{Bool, true, false, not}
 use mathlib.Core.List.{List}
 use lib.Dec.{eqb}
@@ -14,16 +14,17 @@ use Rattle.table.specs.States.{Rows, stepAt, endKind, isCode}
 use Rattle.table.specs.Codes.{codeOf, bytesOf}
 use Rattle.table.specs.Meaning.{stepsOf}
 use Rattle.table.specs.Entry.{padded}
+use Rattle.table.specs.Slices.{Slices}
 use Rattle.table.specs.Memory.{tableIn}
 use Rattle.table.specs.Valid.{valid}
 use Rattle.table.specs.declared.states.Code.{Code}
 use Rattle.table.specs.declared.valid.Record.{Record}
 use Rattle.table.proofs.Packing.{length-unpacked, pack-unpack}
 use Rattle.table.proofs.CodePositions.{none-code, code-none}
-use Rattle.audit.specs.Audit.{Answer, listing, refused, looked, isPosition, auditOn, auditTested, auditedOf, spaceAfter}
+use Rattle.audit.specs.Audit.{Answer, numberOf, answerNumber, listing, refused, looked, isPosition, auditOn, auditTested, auditedOf, spaceAfter}
 use Rattle.audit.specs.declared.Audited.{Audited}
 use Rattle.audit.specs.declared.Ending.the-variants.{BadPosition, BadTable}
-use Rattle.audit.proofs.ValidMemory.{Sound, position-held}
+use Rattle.audit.proofs.ValidMemory.{position-held}
 
 -- a position is the code of its bytes
 pub position-packed : (step : Rows) (pos : Code) → isPosition step pos ≡ true → pos ≡ codeOf (bytesOf pos)
@@ -56,25 +57,28 @@ module _ (step : Rows) (pos : Code) (some : pos .len ≡ 0 → ⊥) where
       not-pick true = refl
       not-pick false = refl
 
-module _ (rec : Record) (states codes infos order : List ℕ) (fallback : Bool) (pos : Code) (allowance space : ℕ) where
-  pub audit-invalid : valid limits rec states codes infos order ≡ false → auditTested limits rec states codes infos order fallback pos allowance space ≡ refused BadTable pos
+module _ (rec : Record) (m : Slices) (fallback : Bool) (pos : Code) (allowance space : ℕ) where
+  pub audit-invalid : valid limits rec m ≡ false → auditTested limits rec m fallback pos allowance space ≡ refused BadTable pos
   unfolding auditTested
-  audit-invalid h = pick-no (valid limits rec states codes infos order) _ _ h
+  audit-invalid h = pick-no (valid limits rec m) _ _ h
 
-  module _ (s : Sound rec states codes infos order) (fits : pos .bits < 4294967296) where
-    audit-on : auditTested limits rec states codes infos order fallback pos allowance space ≡ auditOn (tableIn rec states codes infos) fallback pos allowance space
+  module _ (ok : valid limits rec m ≡ true) (fits : pos .bits < 4294967296) where
+    audit-on : auditTested limits rec m fallback pos allowance space ≡ auditOn (tableIn rec m) fallback pos allowance space
     unfolding auditTested
-    audit-on = pick-yes (valid limits rec states codes infos order) _ _ (s .passes)
+    audit-on = pick-yes (valid limits rec m) _ _ ok
 
-    pub audit-misplaced : isPosition (stepAt states) pos ≡ false → auditTested limits rec states codes infos order fallback pos allowance space ≡ refused BadPosition pos
+    pub audit-misplaced : isPosition (stepAt (m .states)) pos ≡ false → auditTested limits rec m fallback pos allowance space ≡ refused BadPosition pos
     unfolding auditOn
-    audit-misplaced h = audit-on ∙ pick-no (isPosition (stepsOf (tableIn rec states codes infos)) pos) _ _ (sym (position-held rec states codes infos order s pos fits) ∙ h)
+    audit-misplaced h = audit-on ∙ pick-no (isPosition (stepsOf (tableIn rec m)) pos) _ _ (sym (position-held rec m ok pos fits) ∙ h)
 
-    pub audit-placed : isPosition (stepAt states) pos ≡ true
-        → auditTested limits rec states codes infos order fallback pos allowance space ≡ looked (pageFrom (listing (tableIn rec states codes infos) fallback) allowance space (bytesOf pos))
+    pub audit-placed : isPosition (stepAt (m .states)) pos ≡ true
+        → auditTested limits rec m fallback pos allowance space ≡ looked (pageFrom (listing (tableIn rec m) fallback) allowance space (bytesOf pos))
     unfolding auditOn
-    audit-placed h = audit-on ∙ pick-yes (isPosition (stepsOf (tableIn rec states codes infos)) pos) _ _ (sym (position-held rec states codes infos order s pos fits) ∙ h)
+    audit-placed h = audit-on ∙ pick-yes (isPosition (stepsOf (tableIn rec m)) pos) _ _ (sym (position-held rec m ok pos fits) ∙ h)
 
 -- what is promised of an answer is promised of its equal
-pub answer-same : (a b : Answer) → a ≡ b → (r : Audited) (old new : List ℕ) → (r ≡ auditedOf b) × (new ≡ spaceAfter b old) → (r ≡ auditedOf a) × (new ≡ spaceAfter a old)
-answer-same a b e r old new h = subst (λ (x : Answer). (r ≡ auditedOf x) × (new ≡ spaceAfter x old)) (sym e) h
+pub answer-same : (a b : Answer) → a ≡ b → (r : Audited) (old new : List ℕ) → (r ≡ auditedOf b) × (new ≡ spaceAfter b old)
+    → (r ≡ auditedOf a) × (new ≡ spaceAfter a old) × (numberOf (r .ending) ≡ answerNumber a)
+answer-same a b e r old new h =
+    let p : r ≡ auditedOf a = h .0 ∙ ap auditedOf (sym e) in
+    (p, h .1 ∙ ap (λ (x : Answer). spaceAfter x old) (sym e), ap (λ (x : Audited). numberOf (x .ending)) p)

@@ -4,23 +4,25 @@ use mathlib.Core.Path.{_≡_, sym, ap, _∙_}
 use mathlib.Core.Bool.{Bool, true, false, false≢true}
 use mathlib.Core.List.{List, []}
 use lib.ListN.{length}
-use Rattle.lists.specs.Paging.{Call, summed, lastFinished}
+use Rattle.lists.specs.Calls.{summed, lastFinished}
 use Rattle.lists.proofs.Paging.{those-rest}
-use Rattle.lists.proofs.PageEntries.{notes-few, last-finished}
+use Rattle.lists.proofs.PageEntries.{notes-few}
+use Rattle.lists.proofs.Calls.{last-finished}
 use Rattle.table.specs.Codes.{before, after, bytesOf}
 use Rattle.table.specs.Meaning.{Table}
 use Rattle.table.specs.declared.states.Code.{Code}
 use Rattle.table.proofs.CodePositions.{those-after, those-up-to}
-use Rattle.audit.specs.Audit.{Answer, completeCodes, plainList, listing}
-use Rattle.audit.specs.Demand.{beginning, pagesOf, lastOf, Demand3}
+use Rattle.audit.specs.Audit.{Finding, completeCodes, plainList, listing}
+use Rattle.audit.specs.Demand.{beginning, AuditCall, callsOf, lastOf, Claims}
 
 pub list-short : (t : Table) (fallback : Bool) → length (plainList t fallback) ≤ length (completeCodes t)
 unfolding plainList
 list-short t fallback = notes-few (listing t fallback) (completeCodes t)
 
-pub counts-whole : (t : Table) (fallback : Bool) (calls : List Call) (answers : List Answer) → Demand3 t fallback calls answers
-    → lastFinished false (pagesOf answers) ≡ true → summed (pagesOf answers) ≡ length (completeCodes t)
-counts-whole t fallback calls answers d f =
-    let p = lastOf answers in
-    let none-left : after p (completeCodes t) ≡ [] = last-finished (λ (c : Code). after (bytesOf c) (completeCodes t) ≡ []) (pagesOf answers) beginning false (λ e. absurd (false≢true e)) (d .finished) f in
+pub counts-whole : {F : Type 0} (t : Table) (fallback : Bool) (number : Finding → F) (cs : List (AuditCall F)) → Claims t fallback number cs
+    → lastFinished false (callsOf cs) ≡ true → summed (callsOf cs) ≡ length (completeCodes t)
+counts-whole t fallback number cs d f =
+    let p = lastOf cs in
+    let none-left : after p (completeCodes t) ≡ [] =
+    last-finished (λ (c : Code). after (bytesOf c) (completeCodes t) ≡ []) (callsOf cs) beginning false (λ e. absurd (false≢true e)) (d .finished) f in
     d .counts ∙ ap length (sym (those-up-to p (completeCodes t)) ∙ those-rest (before p) (completeCodes t) (those-after p (completeCodes t) ∙ none-left))

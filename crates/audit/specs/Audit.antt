@@ -1,5 +1,5 @@
 -- The audit of codes: which complete codes do not round-trip and why, the plain list, and one audit call.
-use Prim.Native.Nat.{ℕ, zero, suc, _+_, _*_}
+use Prim.Native.Nat.{ℕ, zero, suc, _+_, _*_, _/_, _%_}
 use mathlib.Core.Bool.{Bool, false}
 use mathlib.Core.Option.{Option, none, some}
 use mathlib.Core.List.{List, [], _++_, map}
@@ -12,6 +12,7 @@ use Rattle.table.specs.States.{Rows, endKind, isCode}
 use Rattle.table.specs.Codes.{allCodes, before, packed, codeOf, bytesOf, nextOf}
 use Rattle.table.specs.Meaning.{Line, Table, stepsOf, same, reader}
 use Rattle.table.specs.Entry.{padded}
+use Rattle.table.specs.Slices.{Slices}
 use Rattle.table.specs.Memory.{tableIn}
 use Rattle.table.specs.Valid.{valid}
 use Rattle.table.specs.declared.states.Code.{Code}
@@ -22,6 +23,7 @@ use Rattle.convert.specs.Step.{Written, code, subchar1, nothing, writes}
 use Rattle.audit.specs.declared.Ending.{Ending}
 use Rattle.audit.specs.declared.Ending.the-variants.{Looked, BadPosition, BadTable}
 use Rattle.audit.specs.declared.Audited.{Audited}
+use Rattle.audit.specs.declared.Entry.{Entry}
 
 -- every complete code, in byte order
 abbrev pub completeCodes : Table → List (List ℕ)
@@ -92,6 +94,10 @@ pub record Answer : Type 0 where
   pub ending : Ending
   pub page : Page Finding Code
 
+-- its number
+abbrev pub answerNumber : Answer → ℕ
+answerNumber a = numberOf (a .ending)
+
 -- a refusal: no entries, count 0, the position as it came, not finished
 abbrev pub refused : Ending → Code → Answer
 refused e pos = record { ending = e; page = stoppedAt pos false }
@@ -111,13 +117,17 @@ auditOn t fallback pos allowance space =
     pick (isPosition (stepsOf t) pos) (looked (pageFrom (listing t fallback) allowance space (bytesOf pos))) (refused BadPosition pos)
 
 -- a call on record and lent memory, whatever they are: 60 where they are not valid, before 40
-unfoldable pub auditTested : Limits → Record → List ℕ → List ℕ → List ℕ → List ℕ → Bool → Code → ℕ → ℕ → Answer
-auditTested lim rec states codes infos order fallback pos allowance space =
-    pick (valid lim rec states codes infos order) (auditOn (tableIn rec states codes infos) fallback pos allowance space) (refused BadTable pos)
+unfoldable pub auditTested : Limits → Record → Slices → Bool → Code → ℕ → ℕ → Answer
+auditTested lim rec m fallback pos allowance space =
+    pick (valid lim rec m) (auditOn (tableIn rec m) fallback pos allowance space) (refused BadTable pos)
 
 -- an entry as a number of 64 bits: the code's bits, 2^32 * its length, 2^40 * its cause
 unfoldable pub entryNumber : Finding → ℕ
 entryNumber f = packed (f .code) + 4294967296 * length (f .code) + 1099511627776 * f .cause
+
+-- a number of 64 bits taken apart
+unfoldable pub entryIn : ℕ → Entry
+entryIn n = record { code = record { bits = n % 4294967296; len = n / 4294967296 % 256 }; cause = n / 1099511627776 }
 
 -- an answer as the function hands it back, and the lent space afterwards: what is not used keeps its values
 abbrev pub auditedOf : Answer → Audited

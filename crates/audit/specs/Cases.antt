@@ -1,68 +1,87 @@
--- The starred cases of document 01: table K from its own text, and a table of questions with their answers.
+-- The starred cases of document 01: what the load of K's own text answers, and what calls on the record and memory that it left
+-- answer, in the words of the functions' own promises, whatever the lent slices held before.
 use Prim.Native.Nat.{ℕ}
 use mathlib.Core.Path.{_≡_}
 use mathlib.Core.Bool.{Bool, true, false}
-use mathlib.Core.List.{List, [], _∷_, map}
-use lib.ListN.{length}
+use mathlib.Core.List.{List, [], _∷_, _++_, map}
+use lib.ListN.{length, drop}
+use Rattle.lists.specs.Order.{All}
 use Rattle.table.specs.Limits.{limits}
-use Rattle.table.specs.Codes.{codeOf, bytesOf}
-use Rattle.table.specs.Meaning.{Table}
-use Rattle.table.specs.Load.{accepted, loadOf}
-use Rattle.table.specs.TableK.{kText, tableK}
-use Rattle.convert.specs.Run.{Run, haltNumber}
-use Rattle.convert.specs.Step.{utf8}
-use Rattle.convert.specs.Convert.{toRun, fromRun}
-use Rattle.audit.specs.Audit.{Finding, Answer, numberOf, completeCodes, plainList, auditOn}
+use Rattle.table.specs.Codes.{codeOf}
+use Rattle.table.specs.Slices.{Slices}
+use Rattle.table.specs.Load.{loadedBy, given, leftIn}
+use Rattle.table.specs.TableK.{kText}
+use Rattle.table.specs.Progress.{Lent}
+use Rattle.table.specs.declared.states.Code.{Code}
+use Rattle.table.specs.declared.valid.Record.{Record}
+use Rattle.table.specs.declared.load.Answer.the-variants.{Accepted}
+use Rattle.table.specs.declared.load.Loaded.{Loaded}
+use Rattle.convert.specs.Run.{Run, doneOf, putOut, haltNumber}
+use Rattle.convert.specs.Step.{utf8, strict, substituting}
+use Rattle.convert.specs.Convert.{toTested, fromTested}
+use Rattle.convert.specs.declared.Settings.{Settings}
+use Rattle.audit.specs.Audit.{Finding, Answer, numberOf, auditTested, entryNumber, auditedOf, spaceAfter}
 
--- strict or substitute, fallback off or on
-abbrev strict : Bool
-strict = false
-
-abbrev substitute : Bool
-substitute = true
-
+-- fallback off or on
 abbrev off : Bool
 off = false
 
 abbrev on : Bool
 on = true
 
--- to UTF-8 (setting, input, space), from UTF-8 (fallback, setting, input, space), how many complete codes, the plain list (fallback),
--- an audit call (fallback, position, allowance, space)
+-- a call: to UTF-8 (settings, input), from UTF-8 (settings, input), of the audit (fallback, position, allowance)
 pub data Question : Type 0 where
-  toUtf8 : Bool → List ℕ → ℕ → Question
-  fromUtf8 : Bool → Bool → List ℕ → ℕ → Question
-  howMany : Question
-  whichList : Bool → Question
-  audit : Bool → List ℕ → ℕ → ℕ → Question
+  toUtf8 : Settings → List ℕ → Question
+  fromUtf8 : Settings → List ℕ → Question
+  audit : Bool → List ℕ → ℕ → Question
 
--- a conversion's number, bytes read and output; a count; a list; a call's number, entries, count, position, and whether it is finished
+-- what is expected: a conversion's number, bytes read and output; an audit call's number, entries, count, position, and whether it is finished
 pub data Reply : Type 0 where
   converted : ℕ → ℕ → List ℕ → Reply
-  codes : ℕ → Reply
-  list : List Finding → Reply
   audited : ℕ → List Finding → ℕ → List ℕ → Bool → Reply
 
-abbrev conversion : Run → Reply
-conversion r = converted (haltNumber (r .halt)) (r .read) (r .bytes)
+-- what a caller sees: a conversion's number, bytes read and written, and the output slice afterwards;
+-- an audit call's number, entries written, count, position, whether it is finished, and the space for entries afterwards
+pub data Seen : Type 0 where
+  conversion : ℕ → ℕ → ℕ → List ℕ → Seen
+  call : ℕ → ℕ → ℕ → Code → Bool → List ℕ → Seen
 
-abbrev call : Answer → Reply
-call a = audited (numberOf (a .ending)) (a .page .entries) (a .page .count) (bytesOf (a .page .position)) (a .page .finished)
+-- by the functions' promises, where the lent output slice was `out`
+abbrev pub converts : Run → List ℕ → Seen
+converts r out = conversion (haltNumber (doneOf r .halt)) (doneOf r .read) (doneOf r .written) (putOut r out)
 
--- what the definitions say
-unfoldable pub ask : Table → Question → Reply
-ask t (toUtf8 subst input space) = conversion (toRun utf8 t subst input space)
-ask t (fromUtf8 fallback subst input space) = conversion (fromRun utf8 t fallback subst input space)
-ask t howMany = codes (length (completeCodes t))
-ask t (whichList fallback) = list (plainList t fallback)
-ask t (audit fallback position allowance space) = call (auditOn t fallback (codeOf position) allowance space)
+abbrev pub calls : Answer → List ℕ → Seen
+calls a out =
+    let d = auditedOf a in
+    call (numberOf (d .ending)) (d .written) (d .count) (d .position) (d .finished) (spaceAfter a out)
 
+-- on a record and slices
+abbrev pub askOn : Record → Slices → List ℕ → Question → Seen
+askOn rec m out (toUtf8 settings input) =
+    converts (toTested utf8 limits rec m settings input (length out)) out
+askOn rec m out (fromUtf8 settings input) =
+    converts (fromTested utf8 limits rec m settings input (length out)) out
+askOn rec m out (audit fallback position allowance) =
+    calls (auditTested limits rec m fallback (codeOf position) allowance (length out)) out
+
+-- on the record and the slices that the load of K's text gave and left
+unfoldable pub ask : Slices → List ℕ → Question → Seen
+ask old out q = askOn (loadedBy (given limits kText old) .table) (leftIn limits (given limits kText old) old) out q
+
+-- what is expected, as a caller sees it: output or entries at the front of the slice, and behind them its old values
+abbrev pub seenAs : Reply → List ℕ → Seen
+seenAs (converted number read output) out = conversion number read (length output) (output ++ drop (length output) out)
+seenAs (audited number entries count position finished) out =
+    call number (length entries) count (codeOf position) finished (map entryNumber entries ++ drop (length entries) out)
+
+-- a call with an output slice of this length, and its reply
 pub record Case : Type 0 where
   pub question : Question
+  pub space : ℕ
   pub reply : Reply
 
-abbrev the : Question → Reply → Case
-the q r = record { question = q; reply = r }
+abbrev the : Question → ℕ → Reply → Case
+the q n r = record { question = q; space = n; reply = r }
 
 abbrev cause : List ℕ → ℕ → Finding
 cause c w = record { code = c; cause = w }
@@ -73,28 +92,45 @@ kList = cause (0x3f ∷ []) 2 ∷ cause (0x81 ∷ 0x7d ∷ []) 3 ∷ cause (0x81
 -- cases 1 to 8, in their order
 unfoldable pub cases : List Case
 cases =
-    the (toUtf8 strict (0x81 ∷ 0x7c ∷ 0x33 ∷ []) 16) (converted 0 3 (0xe2 ∷ 0x88 ∷ 0x92 ∷ 0x33 ∷ []))
-    ∷ the (fromUtf8 off strict (0xe2 ∷ 0x88 ∷ 0x92 ∷ 0x33 ∷ []) 16) (converted 0 4 (0x81 ∷ 0x7c ∷ 0x33 ∷ []))
-    ∷ the (fromUtf8 off strict (0xef ∷ 0xbc ∷ 0x8d ∷ 0x33 ∷ []) 16) (converted 53 0 [])
-    ∷ the (fromUtf8 off substitute (0xef ∷ 0xbc ∷ 0x8d ∷ 0x33 ∷ []) 16) (converted 0 4 (0x3f ∷ 0x33 ∷ []))
-    ∷ the (fromUtf8 on strict (0xef ∷ 0xbc ∷ 0x8d ∷ 0x33 ∷ []) 16) (converted 0 4 (0x81 ∷ 0x7c ∷ 0x33 ∷ []))
-    ∷ the (toUtf8 strict (0x81 ∷ []) 16) (converted 51 0 [])
-    ∷ the (toUtf8 strict (0x81 ∷ 0x2d ∷ 0x33 ∷ []) 16) (converted 52 0 [])
-    ∷ the (toUtf8 strict [] 16) (converted 0 0 [])
-    ∷ the (toUtf8 substitute (0x81 ∷ 0x80 ∷ []) 16) (converted 0 2 (0xef ∷ 0xbf ∷ 0xbd ∷ []))
-    ∷ the (toUtf8 strict (0x81 ∷ 0x80 ∷ []) 16) (converted 53 0 [])
-    ∷ the (toUtf8 strict (0x81 ∷ 0x7c ∷ []) 2) (converted 50 0 [])
-    ∷ the howMany (codes 7)
-    ∷ the (whichList off) (list kList)
-    ∷ the (whichList on) (list kList)
-    ∷ the (audit off [] 0 16) (audited 0 [] 0 [] false)
-    ∷ the (audit off (0x81 ∷ []) 16 16) (audited 40 [] 0 (0x81 ∷ []) false)
+    -- 1: 81 7C 33 gives E2 88 92 33, read 3
+    the (toUtf8 (strict off) (0x81 ∷ 0x7c ∷ 0x33 ∷ [])) 16 (converted 0 3 (0xe2 ∷ 0x88 ∷ 0x92 ∷ 0x33 ∷ []))
+    -- 2: E2 88 92 33 gives 81 7C 33
+    ∷ the (fromUtf8 (strict off) (0xe2 ∷ 0x88 ∷ 0x92 ∷ 0x33 ∷ [])) 16 (converted 0 4 (0x81 ∷ 0x7c ∷ 0x33 ∷ []))
+    -- 3: EF BC 8D 33, fallback off, strict: 53, read 0. Substitute: 3F 33. Fallback on: 81 7C 33
+    ∷ the (fromUtf8 (strict off) (0xef ∷ 0xbc ∷ 0x8d ∷ 0x33 ∷ [])) 16 (converted 53 0 [])
+    ∷ the (fromUtf8 (substituting off) (0xef ∷ 0xbc ∷ 0x8d ∷ 0x33 ∷ [])) 16 (converted 0 4 (0x3f ∷ 0x33 ∷ []))
+    ∷ the (fromUtf8 (strict on) (0xef ∷ 0xbc ∷ 0x8d ∷ 0x33 ∷ [])) 16 (converted 0 4 (0x81 ∷ 0x7c ∷ 0x33 ∷ []))
+    -- 4: 81 alone: 51, read 0. 81 2D 33: 52, read 0. Empty: 0, read 0
+    ∷ the (toUtf8 (strict off) (0x81 ∷ [])) 16 (converted 51 0 [])
+    ∷ the (toUtf8 (strict off) (0x81 ∷ 0x2d ∷ 0x33 ∷ [])) 16 (converted 52 0 [])
+    ∷ the (toUtf8 (strict off) []) 16 (converted 0 0 [])
+    -- 5: 81 80, substitute: EF BF BD; strict: 53
+    ∷ the (toUtf8 (substituting off) (0x81 ∷ 0x80 ∷ [])) 16 (converted 0 2 (0xef ∷ 0xbf ∷ 0xbd ∷ []))
+    ∷ the (toUtf8 (strict off) (0x81 ∷ 0x80 ∷ [])) 16 (converted 53 0 [])
+    -- 6: 81 7C with two bytes of space: 50, read 0, written 0
+    ∷ the (toUtf8 (strict off) (0x81 ∷ 0x7c ∷ [])) 2 (converted 50 0 [])
+    -- 7: 7 complete codes; the list is 3F cause 2, 81 7D cause 3, 81 80 cause 1: one call from the beginning that is finished
+    ∷ the (audit off [] 16) 16 (audited 0 kList 7 (0x81 ∷ 0x80 ∷ []) true)
+    ∷ the (audit on [] 16) 16 (audited 0 kList 7 (0x81 ∷ 0x80 ∷ []) true)
+    -- 8: allowance 0 at the beginning: count 0, not finished. Position 81: 40
+    ∷ the (audit off [] 0) 16 (audited 0 [] 0 [] false)
+    ∷ the (audit off (0x81 ∷ []) 16) 16 (audited 40 [] 0 (0x81 ∷ []) false)
     ∷ []
 
--- each case holds
-abbrev pub Hold : Table → List Case → Type 0
-Hold t l = map (λ c. ask t (c .question)) l ≡ map (λ c. c .reply) l
+-- K's text is accepted, line 0, with this record
+abbrev pub kLoaded : Loaded
+kLoaded = record {
+  answer = Accepted;
+  line = 0;
+  table = record { rows = 2; mappings = 6; min = 1; max = 2; subchar = record { bits = 0x3f000000; len = 1 }; subchar1 = 0 };
+}
 
--- THE STARRED CASES: K's text is accepted as table K, and each case holds of it
+-- a case holds, whatever the output slice held
+abbrev pub Holds : Slices → Case → Type 0
+Holds old c = (out : List ℕ) → length out ≡ c .space → ask old out (c .question) ≡ seenAs (c .reply) out
+
+-- THE STARRED CASES: whatever was held by slices that are long enough, K's text is accepted with K's record, and each case holds
 abbrev pub Starred : Type 0
-Starred = (loadOf limits kText ≡ accepted tableK) × Hold tableK cases
+Starred =
+    (old : Slices) → Lent limits old
+    → (loadedBy (given limits kText old) ≡ kLoaded) × All (Holds old) cases

@@ -1,11 +1,13 @@
 // The audit of codes: which complete codes of a table do not round-trip, a page at a time.
+use convert::ReadAs;
+use convert::WrittenAs;
+use convert::read_as;
+use convert::write_as;
 use table::codes::Next;
 use table::states::Code;
-use table::store::Found;
 use table::valid::Record;
 ghost use mathlib.Core.Path.{_≡_};
-ghost use mathlib.Core.Bool.{true, false};
-ghost use mathlib.Core.Option.{some};
+ghost use mathlib.Core.Bool.{true};
 ghost use lib.Dec.{eqb};
 ghost use lib.ListN.{length};
 ghost use Rattle.lists.specs.Pick.{pick};
@@ -13,11 +15,12 @@ ghost use Rattle.lists.specs.Paging.{isNone, pageFrom};
 ghost use Rattle.table.specs.Limits.{limits};
 ghost use Rattle.table.specs.States.{stepAt, endKind};
 ghost use Rattle.table.specs.Codes.{codeOf, bytesOf};
-ghost use Rattle.table.specs.Entry.{mk, rankIn, lineIn, padded, entryOk};
+ghost use Rattle.table.specs.Meaning.{same};
+ghost use Rattle.table.specs.Entry.{padded};
+ghost use Rattle.table.specs.Slices.{slices};
 ghost use Rattle.table.specs.Memory.{tableIn};
 ghost use Rattle.table.specs.Valid.{valid};
-ghost use Rattle.convert.specs.Step.{writtenBy};
-ghost use Rattle.audit.specs.Audit.{backBy, causeBy, causeOf, nextBytes, listing, numberOf, refused, looked, isPosition, auditTested, entryNumber, lookedTo, auditedOf, spaceAfter};
+ghost use Rattle.audit.specs.Audit.{causeOf, nextBytes, listing, numberOf, answerNumber, refused, looked, isPosition, auditTested, entryNumber, entryIn, lookedTo, auditedOf, spaceAfter};
 
 // How an audit call ends: codes were looked at; its position is neither the beginning nor a complete code; the table is not valid.
 pub enum Ending {
@@ -34,6 +37,12 @@ pub struct Audited {
     pub position: Code,
     pub finished: bool,
     pub count: u64,
+}
+
+// A code that does not round-trip, and its cause.
+pub struct Entry {
+    pub code: Code,
+    pub cause: u32,
 }
 
 // The number of an ending.
@@ -70,32 +79,15 @@ fn lowest_cause(states: &[u16], code: Code, other: u8) -> u8
     other
 }
 
-// Whether a stored line writes its code: `|0` does, `|1` with fallback on.
-fn writes_code(info: u32, fallback: bool) -> bool
-    ensures { λ r. ⌜ r ≡ pick (eqb (rankIn info) 2) fallback (eqb (rankIn info) 0) ⌝ }
+// Whether two codes have the same bytes.
+fn same_code(a: Code, b: Code) -> bool
+    requires { ⌜ (padded (a .len) (a .bits) ≡ true) × (padded (b .len) (b .bits) ≡ true) ⌝ }
+    ensures { λ r. ⌜ r ≡ same (bytesOf a) (bytesOf b) ⌝ }
 {
-    let rank = info / 2097152 % 8;
-    if rank == 2 {
-        return fallback;
+    if a.bits != b.bits {
+        return false;
     }
-    rank == 0
-}
-
-// By the stored line that says what becomes of a code's code point: 0 where it writes the same code, 3 another, 4 none.
-fn written_back(bits: u32, info: u32, fallback: bool, code: Code) -> u8
-    requires { ⌜ (entryOk (mk bits info) ≡ true) × (padded (code .len) (code .bits) ≡ true) ⌝ }
-    ensures { λ r. ⌜ r ≡ causeBy (bytesOf code) false (backBy (writtenBy fallback (some (lineIn (mk bits info))))) ⌝ }
-{
-    if !writes_code(info, fallback) {
-        return 4;
-    }
-    if bits != code.bits {
-        return 3;
-    }
-    if info / 16777216 != code.len - 1 {
-        return 3;
-    }
-    0
+    a.len == b.len
 }
 
 // Why a complete code does not round-trip, or 0 where it does: one look-up of the code, and one of its code point.
@@ -108,22 +100,23 @@ fn cause(
     fallback: bool,
     code: Code,
 ) -> u8
-    requires { ⌜ (valid limits rec (now states) (now codes) (now infos) (now order) ≡ true) × (padded (code .len) (code .bits) ≡ true) ⌝ }
-    ensures { λ r. ⌜ r ≡ causeOf (tableIn rec (now (states .entry)) (now (codes .entry)) (now (infos .entry))) fallback (bytesOf code) ⌝ }
+    requires { ⌜ (valid limits rec (slices (now states) (now codes) (now infos) (now order)) ≡ true) × (padded (code .len) (code .bits) ≡ true) ⌝ }
+    ensures { λ r. ⌜ r ≡ causeOf (tableIn rec (slices (now (states .entry)) (now (codes .entry)) (now (infos .entry)) (now (order .entry)))) fallback (bytesOf code) ⌝ }
 {
-    let n = rec.mappings;
-    let Found::Hit(_, read) = table::store::find_code(codes, infos, n, code) else {
+    let ReadAs::Point(point) = read_as(table::lookup::find_code(rec, codes, infos, code)) else {
         return lowest_cause(states, code, 2);
     };
-    let Found::Hit(bits, info) = table::store::find_point(codes, infos, order, n, read % 2097152)
-    else {
-        return lowest_cause(states, code, 4);
-    };
-    let other = written_back(bits, info, fallback, code);
-    if other == 0 {
-        return 0;
+    let found = table::lookup::find_point(rec, codes, infos, order, point);
+    match write_as(found, fallback) {
+        WrittenAs::Code(back) => {
+            if same_code(back, code) {
+                return 0;
+            }
+            lowest_cause(states, code, 3)
+        }
+        WrittenAs::Subchar1 => lowest_cause(states, code, 4),
+        WrittenAs::Nothing => lowest_cause(states, code, 4),
     }
-    lowest_cause(states, code, other)
 }
 
 // An entry as a number of 64 bits.
@@ -132,6 +125,19 @@ fn entry_number(code: Code, cause: u8) -> u64
     ensures { λ r. ⌜ r ≡ entryNumber (record { code = bytesOf code; cause = cause }) ⌝ }
 {
     (code.bits as u64) + 4294967296 * (code.len as u64) + 1099511627776 * (cause as u64)
+}
+
+// An entry taken apart: the code, and the cause.
+pub fn entry_in(number: u64) -> Entry
+    ensures { λ r. ⌜ r ≡ entryIn number ⌝ }
+{
+    Entry {
+        code: Code {
+            bits: (number % 4294967296) as u32,
+            len: (number / 4294967296 % 256) as u32,
+        },
+        cause: (number / 1099511627776) as u32,
+    }
 }
 
 // Whether no complete code comes next.
@@ -182,9 +188,11 @@ fn walk(
     allowance: u64,
     entries: &mut [u64],
 ) -> Audited
-    requires { ⌜ (valid limits rec (now states) (now codes) (now infos) (now order) ≡ true) × (position ≡ codeOf (bytesOf position)) ⌝ }
-    ensures { λ r. ⌜ (r ≡ auditedOf (looked (pageFrom (listing (tableIn rec (now (states .entry)) (now (codes .entry)) (now (infos .entry))) fallback) allowance (length (now (entries .entry))) (bytesOf position))))
-        × (now (entries .exit) ≡ spaceAfter (looked (pageFrom (listing (tableIn rec (now (states .entry)) (now (codes .entry)) (now (infos .entry))) fallback) allowance (length (now (entries .entry))) (bytesOf position))) (now (entries .entry))) ⌝ }
+    requires { ⌜ (valid limits rec (slices (now states) (now codes) (now infos) (now order)) ≡ true) × (position ≡ codeOf (bytesOf position)) ⌝ }
+    ensures { λ r. ⌜ (let m = slices (now (states .entry)) (now (codes .entry)) (now (infos .entry)) (now (order .entry)) in
+        let a = looked (pageFrom (listing (tableIn rec m) fallback) allowance (length (now (entries .entry))) (bytesOf position)) in
+        (r ≡ auditedOf a)
+        × (now (entries .exit) ≡ spaceAfter a (now (entries .entry)))) ⌝ }
 {
     let marks = table::codes::mark_rows(states);
     let mut at = position;
@@ -225,8 +233,11 @@ pub fn audit(
     allowance: u64,
     entries: &mut [u64],
 ) -> Audited
-    ensures { λ r. ⌜ (r ≡ auditedOf (auditTested limits rec (now (states .entry)) (now (codes .entry)) (now (infos .entry)) (now (order .entry)) fallback position allowance (length (now (entries .entry)))))
-        × (now (entries .exit) ≡ spaceAfter (auditTested limits rec (now (states .entry)) (now (codes .entry)) (now (infos .entry)) (now (order .entry)) fallback position allowance (length (now (entries .entry)))) (now (entries .entry))) ⌝ }
+    ensures { λ r. ⌜ (let m = slices (now (states .entry)) (now (codes .entry)) (now (infos .entry)) (now (order .entry)) in
+        let a = auditTested limits rec m fallback position allowance (length (now (entries .entry))) in
+        (r ≡ auditedOf a)
+        × (now (entries .exit) ≡ spaceAfter a (now (entries .entry)))
+        × (numberOf (r .ending) ≡ answerNumber a)) ⌝ }
 {
     if !table::valid::memory_valid(rec, states, codes, infos, order) {
         return refusal(Ending::BadTable, position);

@@ -7,6 +7,7 @@ use lib.ListN.{length}
 use Rattle.lists.specs.Pick.{pick}
 use Rattle.lists.proofs.Laws.{tests}
 use Rattle.table.specs.Limits.{limits}
+use Rattle.table.specs.Slices.{Slices}
 use Rattle.table.specs.Valid.{valid}
 use Rattle.cabi.specs.Exported.{recordIn, ifFewer, ifShort, checkNumber}
 
@@ -31,12 +32,12 @@ unfolding ifShort
 long-enough n rec result a b h k = enough 7 rec a (ifFewer n result a b) h ∙ enough n result a b k
 
 -- the test behind 60, on a record of too few numbers and on one of seven
-pub unchecked : (rec states codes infos order : List ℕ) → length rec < 7 → checkNumber rec states codes infos order ≡ 70
+pub unchecked : (rec : List ℕ) (m : Slices) → length rec < 7 → checkNumber rec m ≡ 70
 unfolding checkNumber
-unchecked rec states codes infos order h = fewer 7 rec 70 (pick (valid limits (recordIn rec) states codes infos order) 0 60) h
+unchecked rec m h = fewer 7 rec 70 (pick (valid limits (recordIn rec) m) 0 60) h
 
-pub checked : (rec states codes infos order : List ℕ) (b : Bool) → 7 ≤ length rec → valid limits (recordIn rec) states codes infos order ≡ b
-    → checkNumber rec states codes infos order ≡ pick b 0 60
+pub checked : (rec : List ℕ) (m : Slices) (b : Bool) → 7 ≤ length rec → valid limits (recordIn rec) m ≡ b
+    → checkNumber rec m ≡ pick b 0 60
 unfolding checkNumber
-checked rec states codes infos order b h e =
-    enough 7 rec 70 (pick (valid limits (recordIn rec) states codes infos order) 0 60) h ∙ ap (λ (t : Bool). pick t 0 60) e
+checked rec m b h e =
+    enough 7 rec 70 (pick (valid limits (recordIn rec) m) 0 60) h ∙ ap (λ (t : Bool). pick t 0 60) e

@@ -7,6 +7,7 @@ use lib.ListN.{length, getD}
 use Rattle.lists.specs.Pick.{pick}
 use Rattle.lists.specs.Place.{placed}
 use Rattle.table.specs.Limits.{limits}
+use Rattle.table.specs.Slices.{Slices}
 use Rattle.table.specs.Valid.{valid}
 use Rattle.table.specs.declared.valid.Record.{Record}
 use Rattle.table.specs.declared.load.Loaded.{Loaded}
@@ -14,6 +15,7 @@ use Rattle.table.specs.declared.states.Code.{Code}
 use Rattle.convert.specs.Run.{Run}
 use Rattle.convert.specs.Step.{utf8}
 use Rattle.convert.specs.Convert.{toTested, fromTested}
+use Rattle.convert.specs.declared.Settings.{Settings}
 use Rattle.audit.specs.Audit.{Answer as AuditAnswer, auditTested}
 use Rattle.audit.specs.declared.Audited.{Audited}
 
@@ -32,6 +34,10 @@ recordIn ns =
 -- a setting: 0 is off, anything else on
 abbrev pub isOn : ℕ → Bool
 isOn n = not (eqb n 0)
+
+-- the settings that two numbers stand for
+abbrev pub settingsIn : ℕ → ℕ → Settings
+settingsIn fallback substitute = record { fallback = isOn fallback; substitute = isOn substitute }
 
 -- the first where the slice has fewer than n numbers, else the second
 unfoldable pub ifFewer : {A : Type 0} → ℕ → List ℕ → A → A → A
@@ -52,23 +58,23 @@ loadedNumbers l =
     ∷ l .table .subchar .bits ∷ l .table .subchar .len ∷ l .table .subchar1 ∷ []
 
 -- oboepond_check: 0 where record and memory pass the test behind 60
-unfoldable pub checkNumber : List ℕ → List ℕ → List ℕ → List ℕ → List ℕ → ℕ
-checkNumber rec states codes infos order =
-    ifFewer 7 rec 70 (pick (valid limits (recordIn rec) states codes infos order) 0 60)
+unfoldable pub checkNumber : List ℕ → Slices → ℕ
+checkNumber rec m =
+    ifFewer 7 rec 70 (pick (valid limits (recordIn rec) m) 0 60)
 
 -- what a conversion hands back beside its number: bytes read, bytes written
 abbrev pub runNumbers : Run → List ℕ
 runNumbers r = r .read ∷ length (r .bytes) ∷ []
 
 -- oboepond_to_utf8's conversion, with space for `room` bytes
-abbrev pub toExported : List ℕ → List ℕ → List ℕ → List ℕ → List ℕ → ℕ → List ℕ → ℕ → Run
-toExported rec states codes infos order substitute input room =
-    toTested utf8 limits (recordIn rec) states codes infos order (isOn substitute) input room
+abbrev pub toExported : List ℕ → Slices → ℕ → List ℕ → ℕ → Run
+toExported rec m substitute input room =
+    toTested utf8 limits (recordIn rec) m (settingsIn 0 substitute) input room
 
 -- oboepond_from_utf8's conversion
-abbrev pub fromExported : List ℕ → List ℕ → List ℕ → List ℕ → List ℕ → ℕ → ℕ → List ℕ → ℕ → Run
-fromExported rec states codes infos order fallback substitute input room =
-    fromTested utf8 limits (recordIn rec) states codes infos order (isOn fallback) (isOn substitute) input room
+abbrev pub fromExported : List ℕ → Slices → ℕ → ℕ → List ℕ → ℕ → Run
+fromExported rec m fallback substitute input room =
+    fromTested utf8 limits (recordIn rec) m (settingsIn fallback substitute) input room
 
 -- what an audit call hands back beside its number: entries written, the position's bits and length, 1 where finished, the count
 abbrev pub auditedNumbers : Audited → List ℕ
@@ -78,6 +84,6 @@ abbrev pub positionAt : ℕ → ℕ → Code
 positionAt bits len = record { bits = bits; len = len }
 
 -- oboepond_audit's call, with space for `space` entries
-abbrev pub auditExported : List ℕ → List ℕ → List ℕ → List ℕ → List ℕ → ℕ → ℕ → ℕ → ℕ → ℕ → AuditAnswer
-auditExported rec states codes infos order fallback bits len allowance space =
-    auditTested limits (recordIn rec) states codes infos order (isOn fallback) (positionAt bits len) allowance space
+abbrev pub auditExported : List ℕ → Slices → ℕ → ℕ → ℕ → ℕ → ℕ → AuditAnswer
+auditExported rec m fallback bits len allowance space =
+    auditTested limits (recordIn rec) m (isOn fallback) (positionAt bits len) allowance space

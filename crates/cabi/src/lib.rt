@@ -1,6 +1,7 @@
 // The functions for C and Rust: each takes its arguments apart, calls the library, and puts the results into lent slices.
 use audit::Audited;
 use convert::Done;
+use convert::Settings;
 use table::load::Loaded;
 use table::states::Code;
 use table::valid::Record;
@@ -10,8 +11,9 @@ ghost use Prim.Native.Nat.{_≤_};
 ghost use lib.ListN.{length};
 ghost use Rattle.lists.specs.Pick.{pick};
 ghost use Rattle.table.specs.Limits.{limits};
+ghost use Rattle.table.specs.Slices.{slices};
 ghost use Rattle.table.specs.Numbers.{answerNumber};
-ghost use Rattle.table.specs.Load.{givenBy, loadedBy, leftBy, statesOf, codesOf, infosOf, orderedOf};
+ghost use Rattle.table.specs.Load.{givenNumber, loadedBy, given, leftIn};
 ghost use Rattle.convert.specs.Run.{putOut, haltNumber};
 ghost use Rattle.audit.specs.Audit.{auditedOf, spaceAfter, numberOf as endingNumber};
 ghost use Rattle.cabi.specs.Exported.{recordIn, ifFewer, ifShort, withNumbers, loadedNumbers, checkNumber, runNumbers, toExported, fromExported, auditedNumbers, auditExported};
@@ -95,12 +97,11 @@ pub extern "C" fn oboepond_load(
     order: &mut [u32],
     result: &mut [u64],
 ) -> u32
-    ensures { λ r. ⌜ (r ≡ ifFewer 8 (now (result .entry)) 70 (answerNumber (loadedBy (givenBy limits (now (text .entry)) (length (now (states .entry))) (length (now (codes .entry))) (length (now (infos .entry))) (length (now (order .entry)))) .answer)))
-        × (now (states .exit) ≡ ifFewer 8 (now (result .entry)) (now (states .entry)) (leftBy 4096 statesOf (givenBy limits (now (text .entry)) (length (now (states .entry))) (length (now (codes .entry))) (length (now (infos .entry))) (length (now (order .entry)))) (now (states .entry))))
-        × (now (codes .exit) ≡ ifFewer 8 (now (result .entry)) (now (codes .entry)) (leftBy 2048 codesOf (givenBy limits (now (text .entry)) (length (now (states .entry))) (length (now (codes .entry))) (length (now (infos .entry))) (length (now (order .entry)))) (now (codes .entry))))
-        × (now (infos .exit) ≡ ifFewer 8 (now (result .entry)) (now (infos .entry)) (leftBy 2048 infosOf (givenBy limits (now (text .entry)) (length (now (states .entry))) (length (now (codes .entry))) (length (now (infos .entry))) (length (now (order .entry)))) (now (infos .entry))))
-        × (now (order .exit) ≡ ifFewer 8 (now (result .entry)) (now (order .entry)) (leftBy 2048 orderedOf (givenBy limits (now (text .entry)) (length (now (states .entry))) (length (now (codes .entry))) (length (now (infos .entry))) (length (now (order .entry)))) (now (order .entry))))
-        × (now (result .exit) ≡ ifFewer 8 (now (result .entry)) (now (result .entry)) (withNumbers (loadedNumbers (loadedBy (givenBy limits (now (text .entry)) (length (now (states .entry))) (length (now (codes .entry))) (length (now (infos .entry))) (length (now (order .entry)))))) (now (result .entry)))) ⌝ }
+    ensures { λ r. ⌜ (let old = slices (now (states .entry)) (now (codes .entry)) (now (infos .entry)) (now (order .entry)) in
+        let g = given limits (now (text .entry)) old in
+        (r ≡ ifFewer 8 (now (result .entry)) 70 (givenNumber g))
+        × (slices (now (states .exit)) (now (codes .exit)) (now (infos .exit)) (now (order .exit)) ≡ ifFewer 8 (now (result .entry)) old (leftIn limits g old))
+        × (now (result .exit) ≡ ifFewer 8 (now (result .entry)) (now (result .entry)) (withNumbers (loadedNumbers (loadedBy g)) (now (result .entry))))) ⌝ }
 {
     if result.len() < 8 {
         return SHORT;
@@ -118,7 +119,7 @@ pub extern "C" fn oboepond_check(
     infos: &[u32],
     order: &[u32],
 ) -> u32
-    ensures { λ r. ⌜ r ≡ checkNumber (now (rec .entry)) (now (states .entry)) (now (codes .entry)) (now (infos .entry)) (now (order .entry)) ⌝ }
+    ensures { λ r. ⌜ r ≡ checkNumber (now (rec .entry)) (slices (now (states .entry)) (now (codes .entry)) (now (infos .entry)) (now (order .entry))) ⌝ }
 {
     if rec.len() < RECORD {
         return SHORT;
@@ -143,12 +144,14 @@ pub extern "C" fn oboepond_to_utf8(
     substitute: u32,
     result: &mut [u64],
 ) -> u32
-    ensures { λ r. ⌜ (r ≡ ifShort 2 (now (rec .entry)) (now (result .entry)) 70
-        (haltNumber (toExported (now (rec .entry)) (now (states .entry)) (now (codes .entry)) (now (infos .entry)) (now (order .entry)) substitute (now (input .entry)) (length (now (output .entry))) .halt)))
+    ensures { λ r. ⌜ (let m = slices (now (states .entry)) (now (codes .entry)) (now (infos .entry)) (now (order .entry)) in
+        let run = toExported (now (rec .entry)) m substitute (now (input .entry)) (length (now (output .entry))) in
+        (r ≡ ifShort 2 (now (rec .entry)) (now (result .entry)) 70
+        (haltNumber (run .halt)))
         × (now (output .exit) ≡ ifShort 2 (now (rec .entry)) (now (result .entry)) (now (output .entry))
-        (putOut (toExported (now (rec .entry)) (now (states .entry)) (now (codes .entry)) (now (infos .entry)) (now (order .entry)) substitute (now (input .entry)) (length (now (output .entry)))) (now (output .entry))))
+        (putOut run (now (output .entry))))
         × (now (result .exit) ≡ ifShort 2 (now (rec .entry)) (now (result .entry)) (now (result .entry))
-        (withNumbers (runNumbers (toExported (now (rec .entry)) (now (states .entry)) (now (codes .entry)) (now (infos .entry)) (now (order .entry)) substitute (now (input .entry)) (length (now (output .entry))))) (now (result .entry)))) ⌝ }
+        (withNumbers (runNumbers run) (now (result .entry))))) ⌝ }
 {
     if rec.len() < RECORD {
         return SHORT;
@@ -157,8 +160,11 @@ pub extern "C" fn oboepond_to_utf8(
         return SHORT;
     }
     let held = record_in(rec);
-    let on = substitute != 0;
-    let done = convert::to_utf8(held, states, codes, infos, order, input, output, on);
+    let settings = Settings {
+        fallback: false,
+        substitute: substitute != 0,
+    };
+    let done = convert::to_utf8(held, states, codes, infos, order, input, output, settings);
     put_done(done, result)
 }
 
@@ -176,12 +182,14 @@ pub extern "C" fn oboepond_from_utf8(
     substitute: u32,
     result: &mut [u64],
 ) -> u32
-    ensures { λ r. ⌜ (r ≡ ifShort 2 (now (rec .entry)) (now (result .entry)) 70
-        (haltNumber (fromExported (now (rec .entry)) (now (states .entry)) (now (codes .entry)) (now (infos .entry)) (now (order .entry)) fallback substitute (now (input .entry)) (length (now (output .entry))) .halt)))
+    ensures { λ r. ⌜ (let m = slices (now (states .entry)) (now (codes .entry)) (now (infos .entry)) (now (order .entry)) in
+        let run = fromExported (now (rec .entry)) m fallback substitute (now (input .entry)) (length (now (output .entry))) in
+        (r ≡ ifShort 2 (now (rec .entry)) (now (result .entry)) 70
+        (haltNumber (run .halt)))
         × (now (output .exit) ≡ ifShort 2 (now (rec .entry)) (now (result .entry)) (now (output .entry))
-        (putOut (fromExported (now (rec .entry)) (now (states .entry)) (now (codes .entry)) (now (infos .entry)) (now (order .entry)) fallback substitute (now (input .entry)) (length (now (output .entry)))) (now (output .entry))))
+        (putOut run (now (output .entry))))
         × (now (result .exit) ≡ ifShort 2 (now (rec .entry)) (now (result .entry)) (now (result .entry))
-        (withNumbers (runNumbers (fromExported (now (rec .entry)) (now (states .entry)) (now (codes .entry)) (now (infos .entry)) (now (order .entry)) fallback substitute (now (input .entry)) (length (now (output .entry))))) (now (result .entry)))) ⌝ }
+        (withNumbers (runNumbers run) (now (result .entry))))) ⌝ }
 {
     if rec.len() < RECORD {
         return SHORT;
@@ -190,9 +198,11 @@ pub extern "C" fn oboepond_from_utf8(
         return SHORT;
     }
     let held = record_in(rec);
-    let falls = fallback != 0;
-    let on = substitute != 0;
-    let done = convert::from_utf8(held, states, codes, infos, order, input, output, falls, on);
+    let settings = Settings {
+        fallback: fallback != 0,
+        substitute: substitute != 0,
+    };
+    let done = convert::from_utf8(held, states, codes, infos, order, input, output, settings);
     put_done(done, result)
 }
 
@@ -237,12 +247,14 @@ pub extern "C" fn oboepond_audit(
     entries: &mut [u64],
     result: &mut [u64],
 ) -> u32
-    ensures { λ r. ⌜ (r ≡ ifShort 5 (now (rec .entry)) (now (result .entry)) 70
-        (endingNumber ((auditExported (now (rec .entry)) (now (states .entry)) (now (codes .entry)) (now (infos .entry)) (now (order .entry)) fallback bits len allowance (length (now (entries .entry)))) .ending)))
+    ensures { λ r. ⌜ (let m = slices (now (states .entry)) (now (codes .entry)) (now (infos .entry)) (now (order .entry)) in
+        let a = auditExported (now (rec .entry)) m fallback bits len allowance (length (now (entries .entry))) in
+        (r ≡ ifShort 5 (now (rec .entry)) (now (result .entry)) 70
+        (endingNumber (a .ending)))
         × (now (entries .exit) ≡ ifShort 5 (now (rec .entry)) (now (result .entry)) (now (entries .entry))
-        (spaceAfter (auditExported (now (rec .entry)) (now (states .entry)) (now (codes .entry)) (now (infos .entry)) (now (order .entry)) fallback bits len allowance (length (now (entries .entry)))) (now (entries .entry))))
+        (spaceAfter a (now (entries .entry))))
         × (now (result .exit) ≡ ifShort 5 (now (rec .entry)) (now (result .entry)) (now (result .entry))
-        (withNumbers (auditedNumbers (auditedOf (auditExported (now (rec .entry)) (now (states .entry)) (now (codes .entry)) (now (infos .entry)) (now (order .entry)) fallback bits len allowance (length (now (entries .entry)))))) (now (result .entry)))) ⌝ }
+        (withNumbers (auditedNumbers (auditedOf a)) (now (result .entry))))) ⌝ }
 {
     if rec.len() < RECORD {
         return SHORT;

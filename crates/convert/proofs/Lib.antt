@@ -2,8 +2,11 @@ pub mod Runs
 pub mod Whole
 pub mod Steps
 pub mod Text
+pub mod CompleteCodes
 pub mod ThereAndBack
+pub mod Home
 pub mod CodeBytes
 pub mod LookUps
+mod Choices
 pub mod SameLines
 pub mod LoadedText

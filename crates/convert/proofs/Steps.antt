@@ -1,7 +1,7 @@
 -- UTF-8 is a lawful Unicode side; both steps are sound: what they give has some bytes, lies in the input and stays under
 -- more input; and what is read towards Unicode is a scalar value.
 use mathlib.Core.Path.{_≡_, refl, sym, ap, subst, _∙_}
-use Prim.Native.Nat.{ℕ, _+_, _≤_, _<_}
+use Prim.Native.Nat.{ℕ, _≤_, _<_}
 use mathlib.Core.List.{List, _++_}
 use mathlib.Core.Bool.{Bool, true, false}
 use mathlib.Core.Option.{Option, none, some}
@@ -20,16 +20,17 @@ use Rattle.unicode.proofs.Puts.{length-encode}
 use Rattle.unicode.proofs.RoundTrip.{utf8-encode-decode, reads-within}
 use Rattle.unicode.proofs.MoreInput.{more-input-same}
 use Rattle.table.specs.States.{longest, cutOf}
-use Rattle.table.specs.Meaning.{Line, Table, stepsOf, flat, reader}
+use Rattle.table.specs.Meaning.{Line, Table, stepsOf, reader}
 use Rattle.table.specs.Rules.{allOf, t6}
 use Rattle.table.specs.declared.states.Cut.{Cut}
 use Rattle.table.specs.declared.states.Cut.the-variants as cut
 use Rattle.table.specs.declared.states.Halt.the-variants as halt
-use Rattle.table.proofs.Cuts.{cut-complete, cut-more, no-ends-zero}
+use Rattle.table.proofs.Cuts.{cut-within, cut-more, no-ends-zero}
 use Rattle.table.proofs.LineLaws.{reader-keeps}
 use Rattle.convert.specs.Run.{give, stop, Sound}
 use Rattle.convert.specs.Step.{Side, utf8, substitutePoint, pointFor, onCut, toSequence, encoded, toStep, Written, code, subchar1, nothing, writes, sentFor, onSequence, fromStep}
 use Rattle.convert.specs.Claims.{Lawful}
+use Rattle.convert.specs.declared.Settings.{Settings}
 
 pub utf8-lawful : Lawful utf8
 utf8-lawful = record {
@@ -54,51 +55,53 @@ point-count sub1 substitute m (some l) c n e = cc
 point-count sub1 true m none c n e = cc
 point-count sub1 false m none c n e = absurd (let z : _≡_ {A = ℕ} 0 1 = cc in omega arith)
 
-module _ (t : Table) (substitute : Bool) (row : ℕ) where
-  read-by : (s : List ℕ) (c n : ℕ) (x : Cut) → cutOf (stepsOf t) row s ≡ x → onCut t substitute s x ≡ sequence.Scalar c n → ReadFrom t row s n
+module _ (t : Table) (settings : Settings) (row : ℕ) where
+  read-by : (s : List ℕ) (c n : ℕ) (x : Cut) → cutOf (stepsOf t) row s ≡ x → onCut t (settings .substitute) s x ≡ sequence.Scalar c n → ReadFrom t row s n
   read-by s c n (cut.Stopped halt.CutShort) q e = absurd (let z : _≡_ {A = ℕ} 0 1 = cc in omega arith)
   read-by s c n (cut.Stopped (halt.Illegal k)) q e = absurd (let z : _≡_ {A = ℕ} 0 1 = cc in omega arith)
   read-by s c n (cut.Complete m kind) q e =
-      let k = point-count (t .subchar1) substitute m (reader (take m s) (t .lines)) c n e in
+      let k = point-count (t .subchar1) (settings .substitute) m (reader (take m s) (t .lines)) c n e in
       let w : cutOf (stepsOf t) row s ≡ cut.Complete n kind = q ∙ ap (λ (j : ℕ). cut.Complete j kind) k in
-      let r = cut-complete (stepsOf t) longest row 0 s n kind (no-ends-zero (flat (t .rows))) w in
-      record { kind = kind; whole = w; some = r .some; inside = omega (arith, r .inside); few = omega (arith, r .few) }
+      let r = cut-within (stepsOf t) (no-ends-zero (t .rows)) s row n kind w in
+      record { kind = kind; whole = w; some = r .0; inside = r .2; few = r .1 }
 
-  pub read-from : (s : List ℕ) (c n : ℕ) → toSequence t substitute row s ≡ sequence.Scalar c n → ReadFrom t row s n
+  pub read-from : (s : List ℕ) (c n : ℕ) → toSequence t settings row s ≡ sequence.Scalar c n → ReadFrom t row s n
   unfolding toSequence
   read-from s c n e = read-by s c n (cutOf (stepsOf t) row s) refl e
 
   -- a complete code, by the line that reads it
-  pub to-complete : (s : List ℕ) (n kind : ℕ) → cutOf (stepsOf t) row s ≡ cut.Complete n kind → toSequence t substitute row s ≡ pointFor (t .subchar1) substitute n (reader (take n s) (t .lines))
+  pub to-complete : (s : List ℕ) (n kind : ℕ) → cutOf (stepsOf t) row s ≡ cut.Complete n kind
+      → toSequence t settings row s ≡ pointFor (t .subchar1) (settings .substitute) n (reader (take n s) (t .lines))
   unfolding toSequence
-  to-complete s n kind q = ap (onCut t substitute s) q
+  to-complete s n kind q = ap (onCut t (settings .substitute) s) q
 
-  to-more : (s rest : List ℕ) (c n : ℕ) → toSequence t substitute row s ≡ sequence.Scalar c n → toSequence t substitute row (s ++ rest) ≡ sequence.Scalar c n
+  to-more : (s rest : List ℕ) (c n : ℕ) → toSequence t settings row s ≡ sequence.Scalar c n → toSequence t settings row (s ++ rest) ≡ sequence.Scalar c n
   to-more s rest c n e =
       let r = read-from s c n e in
       let w = r .whole in
-      let m = cut-more (stepsOf t) longest row 0 s rest (λ q. let z : _≡_ {A = ℕ} 0 1 = cc in omega arith) in
+      let m = cut-more (stepsOf t) row longest row 0 s rest (λ q. let z : _≡_ {A = ℕ} 0 1 = cc in omega arith) in
       to-complete (s ++ rest) n (r .kind) (m ∙ w)
       ∙ rw (take-append-le n s rest (r .inside)) (sym (to-complete s n (r .kind) w) ∙ e)
 
   -- a code point, encoded
   pub record Encoded (u : Side) (s bs : List ℕ) (n next : ℕ) : Type 0 where
     pub point : ℕ
-    pub reads : toSequence t substitute row s ≡ sequence.Scalar point n
+    pub reads : toSequence t settings row s ≡ sequence.Scalar point n
     pub spelt : u .encode point ≡ bs
     pub stays : row ≡ next
 
-  encoded-by : (u : Side) (s bs : List ℕ) (n next : ℕ) (x : Sequence) → toSequence t substitute row s ≡ x → encoded u row x ≡ give bs n next → Encoded u s bs n next
+  encoded-by : (u : Side) (s bs : List ℕ) (n next : ℕ) (x : Sequence) → toSequence t settings row s ≡ x → encoded u row x ≡ give bs n next
+      → Encoded u s bs n next
   encoded-by u s bs n next (sequence.Stopped w) q e = absurd (let z : _≡_ {A = ℕ} 0 1 = cc in omega arith)
   encoded-by u s bs n next (sequence.Scalar c m) q e =
       let k : m ≡ n = cc in
       record { point = c; reads = q ∙ ap (sequence.Scalar c) k; spelt = cc; stays = cc }
 
-  pub is-encoded : (u : Side) (s bs : List ℕ) (n next : ℕ) → toStep u t substitute row s ≡ give bs n next → Encoded u s bs n next
+  pub is-encoded : (u : Side) (s bs : List ℕ) (n next : ℕ) → toStep u t settings row s ≡ give bs n next → Encoded u s bs n next
   unfolding toStep
-  is-encoded u s bs n next e = encoded-by u s bs n next (toSequence t substitute row s) refl e
+  is-encoded u s bs n next e = encoded-by u s bs n next (toSequence t settings row s) refl e
 
-  pub to-gives : (u : Side) (s : List ℕ) (x : Sequence) → toSequence t substitute row s ≡ x → toStep u t substitute row s ≡ encoded u row x
+  pub to-gives : (u : Side) (s : List ℕ) (x : Sequence) → toSequence t settings row s ≡ x → toStep u t settings row s ≡ encoded u row x
   unfolding toStep
   to-gives u s x q = ap (encoded u row) q
 
@@ -107,26 +110,26 @@ module _ (t : Table) (substitute : Bool) (row : ℕ) where
   stops-by u v (sequence.Scalar c n) w e = absurd (let z : _≡_ {A = ℕ} 0 1 = cc in omega arith)
   stops-by u v (sequence.Stopped y) w e = e
 
-  pub to-stops : (u v : Side) (s : List ℕ) (w : Stop) → toStep u t substitute row s ≡ stop w → toStep v t substitute row s ≡ stop w
+  pub to-stops : (u v : Side) (s : List ℕ) (w : Stop) → toStep u t settings row s ≡ stop w → toStep v t settings row s ≡ stop w
   unfolding toStep
-  to-stops u v s w e = stops-by u v (toSequence t substitute row s) w e
+  to-stops u v s w e = stops-by u v (toSequence t settings row s) w e
 
-pub to-sound : (u : Side) (t : Table) (substitute : Bool) → Sound (toStep u t substitute)
-to-sound u t substitute = record {
-  some = λ row s bs n next e. let k = is-encoded t substitute row u s bs n next e in read-from t substitute row s (k .point) n (k .reads) .some;
-  within = λ row s bs n next e. let k = is-encoded t substitute row u s bs n next e in read-from t substitute row s (k .point) n (k .reads) .inside;
+pub to-sound : (u : Side) (t : Table) (settings : Settings) → Sound (toStep u t settings)
+to-sound u t settings = record {
+  some = λ row s bs n next e. let k = is-encoded t settings row u s bs n next e in read-from t settings row s (k .point) n (k .reads) .some;
+  within = λ row s bs n next e. let k = is-encoded t settings row u s bs n next e in read-from t settings row s (k .point) n (k .reads) .inside;
   grows = λ row s rest bs n next e.
-      let k = is-encoded t substitute row u s bs n next e in
+      let k = is-encoded t settings row u s bs n next e in
       let c = k .point in
-      to-gives t substitute row u (s ++ rest) (sequence.Scalar c n) (to-more t substitute row s rest c n (k .reads))
-      ∙ sym (to-gives t substitute row u s (sequence.Scalar c n) (k .reads))
+      to-gives t settings row u (s ++ rest) (sequence.Scalar c n) (to-more t settings row s rest c n (k .reads))
+      ∙ sym (to-gives t settings row u s (sequence.Scalar c n) (k .reads))
       ∙ e;
 }
 
 -- a code gives at most four bytes of UTF-8
-pub four-bytes : (t : Table) (substitute : Bool) (row : ℕ) (s bs : List ℕ) (n next : ℕ) → toStep utf8 t substitute row s ≡ give bs n next → length bs ≤ 4
-four-bytes t substitute row s bs n next e =
-    let k = is-encoded t substitute row utf8 s bs n next e in
+pub four-bytes : (t : Table) (settings : Settings) (row : ℕ) (s bs : List ℕ) (n next : ℕ) → toStep utf8 t settings row s ≡ give bs n next → length bs ≤ 4
+four-bytes t settings row s bs n next e =
+    let k = is-encoded t settings row utf8 s bs n next e in
     omega (arith, length-encode (k .point), ap length (k .spelt))
 
 -- T6: a line's code point is a scalar value
@@ -157,12 +160,13 @@ point-scalar sub1 true m none c n h e = let q : substitutePoint sub1 m ≡ c = c
 point-scalar sub1 false m none c n h e = absurd (let z : _≡_ {A = ℕ} 0 1 = cc in omega arith)
 
 -- what is read is a scalar value, substitutes too
-pub to-scalar : (t : Table) (substitute : Bool) (row : ℕ) (s : List ℕ) (c n : ℕ) → allOf t6 (t .lines) ≡ true → toSequence t substitute row s ≡ sequence.Scalar c n → Scalar c
-to-scalar t substitute row s c n ok e =
-    let r = read-from t substitute row s c n e in
-    point-scalar (t .subchar1) substitute n (reader (take n s) (t .lines)) c n
+pub to-scalar : (t : Table) (settings : Settings) (row : ℕ) (s : List ℕ) (c n : ℕ) → allOf t6 (t .lines) ≡ true
+    → toSequence t settings row s ≡ sequence.Scalar c n → Scalar c
+to-scalar t settings row s c n ok e =
+    let r = read-from t settings row s c n e in
+    point-scalar (t .subchar1) (settings .substitute) n (reader (take n s) (t .lines)) c n
     (λ l q. reader-scalar t (take n s) l ok q)
-    (sym (to-complete t substitute row s n (r .kind) (r .whole)) ∙ e)
+    (sym (to-complete t settings row s n (r .kind) (r .whole)) ∙ e)
 
 -- FROM UNICODE
 sent-count : (t : Table) (substitute : Bool) (row m : ℕ) (w : Written) (bs : List ℕ) (n next : ℕ) → sentFor t substitute row m w ≡ give bs n next → m ≡ n
@@ -172,27 +176,29 @@ sent-count t false row m subchar1 bs n next e = absurd (let z : _≡_ {A = ℕ} 
 sent-count t true row m nothing bs n next e = cc
 sent-count t false row m nothing bs n next e = absurd (let z : _≡_ {A = ℕ} 0 1 = cc in omega arith)
 
-module _ (u : Side) (t : Table) (fallback substitute : Bool) (row : ℕ) where
-  from-by : (s bs : List ℕ) (n next : ℕ) (x : Sequence) → u .decode s ≡ x → onSequence t fallback substitute row x ≡ give bs n next → (c : ℕ) × (u .decode s ≡ sequence.Scalar c n)
+module _ (u : Side) (t : Table) (settings : Settings) (row : ℕ) where
+  from-by : (s bs : List ℕ) (n next : ℕ) (x : Sequence) → u .decode s ≡ x → onSequence u t (settings .fallback) (settings .substitute) row x ≡ give bs n next
+      → (c : ℕ) × (u .decode s ≡ sequence.Scalar c n)
   from-by s bs n next (sequence.Stopped w) q e = absurd (let z : _≡_ {A = ℕ} 0 1 = cc in omega arith)
-  from-by s bs n next (sequence.Scalar c m) q e = (c, q ∙ ap (sequence.Scalar c) (sent-count t substitute row m (writes t fallback c) bs n next e))
+  from-by s bs n next (sequence.Scalar c m) q e = (c, q ∙ ap (sequence.Scalar c) (sent-count t (settings .substitute) row m (writes t (settings .fallback) c) bs n next e))
 
   -- what is written was read as a code point
-  from-point : (s bs : List ℕ) (n next : ℕ) → fromStep u t fallback substitute row s ≡ give bs n next → (c : ℕ) × (u .decode s ≡ sequence.Scalar c n)
+  from-point : (s bs : List ℕ) (n next : ℕ) → fromStep u t settings row s ≡ give bs n next → (c : ℕ) × (u .decode s ≡ sequence.Scalar c n)
   unfolding fromStep
   from-point s bs n next e = from-by s bs n next (u .decode s) refl e
 
-  pub from-gives : (s : List ℕ) (x : Sequence) → u .decode s ≡ x → fromStep u t fallback substitute row s ≡ onSequence t fallback substitute row x
+  pub from-gives : (s : List ℕ) (x : Sequence) → u .decode s ≡ x
+      → fromStep u t settings row s ≡ onSequence u t (settings .fallback) (settings .substitute) row x
   unfolding fromStep
-  from-gives s x q = ap (onSequence t fallback substitute row) q
+  from-gives s x q = ap (onSequence u t (settings .fallback) (settings .substitute) row) q
 
-pub from-sound : (u : Side) → Lawful u → (t : Table) (fallback substitute : Bool) → Sound (fromStep u t fallback substitute)
-from-sound u law t fallback substitute = record {
-  some = λ row s bs n next e. let k = from-point u t fallback substitute row s bs n next e in law .positive s (k .0) n (k .1);
-  within = λ row s bs n next e. let k = from-point u t fallback substitute row s bs n next e in law .within s (k .0) n (k .1);
+pub from-sound : (u : Side) → Lawful u → (t : Table) (settings : Settings) → Sound (fromStep u t settings)
+from-sound u law t settings = record {
+  some = λ row s bs n next e. let k = from-point u t settings row s bs n next e in law .positive s (k .0) n (k .1);
+  within = λ row s bs n next e. let k = from-point u t settings row s bs n next e in law .within s (k .0) n (k .1);
   grows = λ row s rest bs n next e.
-      let k = from-point u t fallback substitute row s bs n next e in
-      from-gives u t fallback substitute row (s ++ rest) (sequence.Scalar (k .0) n) (law .grows s rest (k .0) n (k .1))
-      ∙ sym (from-gives u t fallback substitute row s (sequence.Scalar (k .0) n) (k .1))
+      let k = from-point u t settings row s bs n next e in
+      from-gives u t settings row (s ++ rest) (sequence.Scalar (k .0) n) (law .grows s rest (k .0) n (k .1))
+      ∙ sym (from-gives u t settings row s (sequence.Scalar (k .0) n) (k .1))
       ∙ e;
 }

@@ -2,7 +2,7 @@
 use mathlib.Core.Path.{_≡_, refl, sym, ap, subst, _∙_}
 use Prim.Native.Nat.{ℕ, _+_, _-_, _*_, _≤_, _<_}
 use mathlib.Core.List.{List, [], _∷_, _++_, append-nil, map, flatten}
-use mathlib.Core.Bool.{Bool, true}
+use mathlib.Core.Bool.{true}
 use native.Mathlib.Omega.{arith}
 use lib.ListN.{length, drop, length-drop}
 use lib.Seq.{take-append-seam}
@@ -21,6 +21,7 @@ use Rattle.convert.specs.Step.{Side, utf8, toStep}
 use Rattle.convert.specs.Convert.{toRun}
 use Rattle.convert.specs.Claims.{Lawful, NotFull, codePoints, pointsIn, spell, onText, textStep, ReadsAs, ReadsAsFirst, WellFormedText}
 use Rattle.convert.specs.declared.Halt.the-variants.{Full, Stopped}
+use Rattle.convert.specs.declared.Settings.{Settings}
 use Rattle.convert.proofs.Runs.{run-stop, run-more, every-run}
 use Rattle.convert.proofs.Steps.{is-encoded, to-gives, to-stops, to-scalar, to-sound, four-bytes}
 use Rattle.convert.proofs.Whole.{Given, inputs, outputs, GivesAll, made-of}
@@ -46,36 +47,36 @@ spelt-on u c n bs r all k e i =
       whole = λ f. i .whole f;
     }
 
-module _ (u : Side) (t : Table) (substitute : Bool) (ok : allOf t6 (t .lines) ≡ true) where
+module _ (u : Side) (t : Table) (settings : Settings) (ok : allOf t6 (t .lines) ≡ true) where
   -- as many places as bytes are enough for the code points
   abbrev Spells : ℕ → List ℕ → ℕ → Run → Type 0
-  Spells row s room r = (places : ℕ) → length s ≤ places → Spelt u r (runOf (toStep codePoints t substitute) row 0 s places .bytes)
+  Spells row s room r = (places : ℕ) → length s ≤ places → Spelt u r (runOf (toStep codePoints t settings) row 0 s places .bytes)
 
-  spelt-stop : (row : ℕ) (s : List ℕ) (room : ℕ) → 0 < length s → (w : Stop) → toStep u t substitute row s ≡ stop w → Spells row s room (halted (Stopped w) row)
+  spelt-stop : (row : ℕ) (s : List ℕ) (room : ℕ) → 0 < length s → (w : Stop) → toStep u t settings row s ≡ stop w → Spells row s room (halted (Stopped w) row)
   unfolding spell
   spelt-stop row s room h w e places l =
-      let p = run-stop (toStep codePoints t substitute) row s places h w (to-stops t substitute row u codePoints s w e) in
+      let p = run-stop (toStep codePoints t settings) row s places h w (to-stops t settings row u codePoints s w e) in
       record { points = []; rest = []; first = ap (λ (r : Run). r .bytes) p; bytes = refl; scalar = tt; whole = λ f. refl }
 
   spelt-full : (row : ℕ) (s : List ℕ) (room : ℕ) → Spells row s room (halted Full row)
   unfolding spell
   spelt-full row s room places l = record { points = []; rest = _; first = refl; bytes = refl; scalar = tt; whole = λ f. absurd (f refl) }
 
-  spelt-more : (row : ℕ) (s : List ℕ) (room : ℕ) → 0 < length s → (bs : List ℕ) (n next : ℕ) → toStep u t substitute row s ≡ give bs n next → length bs ≤ room
+  spelt-more : (row : ℕ) (s : List ℕ) (room : ℕ) → 0 < length s → (bs : List ℕ) (n next : ℕ) → toStep u t settings row s ≡ give bs n next → length bs ≤ room
       → (r : Run) → Spells next (drop n s) (room - length bs) r → Spells row s room (after n bs r)
   spelt-more row s room h bs n next e l r ih places k =
-      let c = is-encoded t substitute row u s bs n next e in
-      let f = to-sound u t substitute .some row s bs n next e in
-      let w = to-sound u t substitute .within row s bs n next e in
-      let g = to-gives t substitute row codePoints s (sequence.Scalar (c .point) n) (c .reads) ∙ ap (give (c .point ∷ []) n) (c .stays) in
-      let p = run-more (toStep codePoints t substitute) row s places h (c .point ∷ []) n next g f (omega arith) in
+      let c = is-encoded t settings row u s bs n next e in
+      let f = to-sound u t settings .some row s bs n next e in
+      let w = to-sound u t settings .within row s bs n next e in
+      let g = to-gives t settings row codePoints s (sequence.Scalar (c .point) n) (c .reads) ∙ ap (give (c .point ∷ []) n) (c .stays) in
+      let p = run-more (toStep codePoints t settings) row s places h (c .point ∷ []) n next g f (omega arith) in
       subst (λ (x : Run). Spelt u (after n bs r) (x .bytes)) (sym p)
-      (spelt-on u (c .point) n bs r _ (to-scalar t substitute row s (c .point) n ok (c .reads)) (c .spelt) (ih (places - 1) (omega (arith, length-drop n s))))
+      (spelt-on u (c .point) n bs r _ (to-scalar t settings row s (c .point) n ok (c .reads)) (c .spelt) (ih (places - 1) (omega (arith, length-drop n s))))
 
-  spelt : (s : List ℕ) (row room : ℕ) → Spells row s room (runOf (toStep u t substitute) row 0 s room)
+  spelt : (s : List ℕ) (row room : ℕ) → Spells row s room (runOf (toStep u t settings) row 0 s room)
   unfolding spell
   spelt =
-      every-run (toStep u t substitute) (to-sound u t substitute) Spells
+      every-run (toStep u t settings) (to-sound u t settings) Spells
       (λ row room places l. record { points = []; rest = []; first = refl; bytes = refl; scalar = tt; whole = λ f. refl })
       spelt-stop
       (λ row s room h bs n next e l. spelt-full row s room)
@@ -108,18 +109,18 @@ module _ (u : Side) (law : Lawful u) where
       let l : length (outputs (spellings u cs)) ≤ length cs = rw b (omega arith) in
       rw (spell-in u cs) at (rw b at (made-of (textStep u) (spellings u cs) (length cs) (spell-gives cs s) l))
 
-  module _ (t : Table) (substitute : Bool) (s : List ℕ) (room : ℕ) (ok : allOf t6 (t .lines) ≡ true) where
+  module _ (t : Table) (settings : Settings) (s : List ℕ) (room : ℕ) (ok : allOf t6 (t .lines) ≡ true) where
     -- whatever the answer, what is written reads as the first of the input's code points
-    pub text-so-far : ReadsAsFirst u (toRun u t substitute s room .bytes) (pointsIn t substitute s)
+    pub text-so-far : ReadsAsFirst u (toRun u t settings s room .bytes) (pointsIn t settings s)
     text-so-far =
-        let w = spelt u t substitute ok s 0 room (length s) (omega arith) in
+        let w = spelt u t settings ok s 0 room (length s) (omega arith) in
         record { points = w .points; rest = w .rest; first = w .first; reads = rw (w .bytes) (reads-back (w .points) (w .scalar)) }
 
     -- and unless the answer is 50, as all of them
-    pub well-formed : NotFull (toRun u t substitute s room) → ReadsAs u (toRun u t substitute s room .bytes) (pointsIn t substitute s)
+    pub well-formed : NotFull (toRun u t settings s room) → ReadsAs u (toRun u t settings s room .bytes) (pointsIn t settings s)
     well-formed f =
-        let w = spelt u t substitute ok s 0 room (length s) (omega arith) in
-        let e : w .points ≡ pointsIn t substitute s = sym (w .first ∙ ap (λ (l : List ℕ). w .points ++ l) (w .whole f) ∙ append-nil (w .points)) in
+        let w = spelt u t settings ok s 0 room (length s) (omega arith) in
+        let e : w .points ≡ pointsIn t settings s = sym (w .first ∙ ap (λ (l : List ℕ). w .points ++ l) (w .whole f) ∙ append-nil (w .points)) in
         rw (w .bytes) (subst (ReadsAs u (spell u (w .points))) e (reads-back (w .points) (w .scalar)))
 
 -- a scalar value is encoded as one whole well-formed sequence
@@ -135,9 +136,10 @@ spell-flat u [] = refl
 spell-flat u (c ∷ cs) = ap (λ (l : List ℕ). u .encode c ++ l) (spell-flat u cs)
 
 -- what is written towards UTF-8 is well-formed UTF-8, whatever the answer
-pub utf8-well-formed : (t : Table) (substitute : Bool) (s : List ℕ) (room : ℕ) → allOf t6 (t .lines) ≡ true → WellFormedText (toRun utf8 t substitute s room .bytes)
-utf8-well-formed t substitute s room ok =
-    let w = spelt utf8 t substitute ok s 0 room (length s) (omega arith) in
+pub utf8-well-formed : (t : Table) (settings : Settings) (s : List ℕ) (room : ℕ) → allOf t6 (t .lines) ≡ true
+    → WellFormedText (toRun utf8 t settings s room .bytes)
+utf8-well-formed t settings s room ok =
+    let w = spelt utf8 t settings ok s 0 room (length s) (omega arith) in
     record {
       sequences = map encodeOf (w .points);
       joined = w .bytes ∙ spell-flat utf8 (w .points);
@@ -145,14 +147,14 @@ utf8-well-formed t substitute s room ok =
     }
 
 -- four places to each byte of the input are enough
-pub room-enough : (t : Table) (substitute : Bool) (s : List ℕ) (row room : ℕ) → 4 * length s ≤ room → NotFull (runOf (toStep utf8 t substitute) row 0 s room)
-room-enough t substitute =
-    every-run (toStep utf8 t substitute) (to-sound utf8 t substitute) (λ row s room r. 4 * length s ≤ room → NotFull r)
+pub room-enough : (t : Table) (settings : Settings) (s : List ℕ) (row room : ℕ) → 4 * length s ≤ room → NotFull (runOf (toStep utf8 t settings) row 0 s room)
+room-enough t settings =
+    every-run (toStep utf8 t settings) (to-sound utf8 t settings) (λ row s room r. 4 * length s ≤ room → NotFull r)
     (λ row room h f. let z : _≡_ {A = ℕ} 0 1 = cc in omega arith)
     (λ row s room h w e l f. let z : _≡_ {A = ℕ} 0 1 = cc in omega arith)
-    (λ row s room h bs n next e l k f. let b = four-bytes t substitute row s bs n next e in omega arith)
+    (λ row s room h bs n next e l k f. let b = four-bytes t settings row s bs n next e in omega arith)
     (λ row s room h bs n next e l r ih k f.
-    let b = four-bytes t substitute row s bs n next e in
-    let w = to-sound utf8 t substitute .some row s bs n next e in
-    let v = to-sound utf8 t substitute .within row s bs n next e in
+    let b = four-bytes t settings row s bs n next e in
+    let w = to-sound utf8 t settings .some row s bs n next e in
+    let v = to-sound utf8 t settings .within row s bs n next e in
     ih (omega (arith, length-drop n s)) f)

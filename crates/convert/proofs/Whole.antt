@@ -3,6 +3,7 @@ use mathlib.Core.Path.{_≡_, refl, sym, ap, _∙_}
 use Prim.Native.Nat.{ℕ, _+_, _-_, _≤_, _<_}
 use mathlib.Core.List.{List, [], _∷_, _++_, append-nil, append-assoc, flatten}
 use native.Mathlib.Omega.{arith}
+use native.Mathlib.Nat.{add-zero}
 use lib.ListN.{length, drop, length-append, length-drop}
 use lib.Seq.{drop-append-le, drop-append-seam, drop-drop, drop-length}
 use Rattle.convert.specs.Run.{give, Step, Run, runOf, after, halted, Sound}
@@ -123,3 +124,8 @@ made-of step (p ∷ l) room g h =
     let b = length-append (p .input) (inputs l) in
     run-more step 0 (p .input ++ inputs l) room (omega (arith, g .0)) (p .output) (length (p .input)) 0 (g .1 (inputs l)) (g .0) (omega arith)
     ∙ rw (drop-append-seam (p .input) (inputs l)) (ap (after (length (p .input)) (p .output)) (made-of step l (room - length (p .output)) (g .2) (omega arith)) ∙ rw b)
+
+-- an input that is one sequence
+pub run-one : (step : Step) (s bs : List ℕ) (room : ℕ) → 0 < length s → step 0 s ≡ give bs (length s) 0 → length bs ≤ room → runOf step 0 0 s room ≡ allRead s bs
+run-one step s bs room h e l =
+    run-more step 0 s room h bs (length s) 0 e h l ∙ rw (drop-length s, add-zero (length s), append-nil bs)

@@ -11,13 +11,17 @@ use Rattle.unicode.specs.WellFormed.{wellFormed}
 use Rattle.unicode.specs.declared.utf8.Sequence.{Sequence}
 use Rattle.unicode.specs.declared.utf8.Sequence.the-variants as sequence
 use Rattle.unicode.specs.declared.utf8.Stop.the-variants as stopped
-use Rattle.table.specs.States.{endKind}
+use Rattle.table.specs.Limits.{limits}
+use Rattle.table.specs.States.{isCode}
 use Rattle.table.specs.Codes.{AllByte}
 use Rattle.table.specs.Meaning.{Line, Table, stepsOf, reader}
+use Rattle.table.specs.Slices.{Slices}
+use Rattle.table.specs.declared.valid.Record.{Record}
 use Rattle.convert.specs.Run.{Gives, give, stop, Step, Run, after, runOf}
-use Rattle.convert.specs.Step.{Side, Written, code, writes}
-use Rattle.convert.specs.Convert.{toRun}
+use Rattle.convert.specs.Step.{Side, utf8, Written, code, writes, strict}
+use Rattle.convert.specs.Convert.{toRun, fromRun, toTested, fromTested}
 use Rattle.convert.specs.declared.Halt.the-variants.{All, Full}
+use Rattle.convert.specs.declared.Settings.{Settings}
 
 -- what the conversions need of a Unicode side
 pub record Lawful (u : Side) : Type 0 where
@@ -49,11 +53,11 @@ readPoint [] = sequence.Stopped stopped.CutShort
 readPoint (c ∷ s) = sequence.Scalar c 1
 
 abbrev pub codePoints : Side
-codePoints = record { decode = readPoint; encode = λ c. c ∷ [] }
+codePoints = record { decode = readPoint; encode = λ c. c ∷ []; unit = 1 }
 
 -- the code points of an input, which has at most one for each byte
-abbrev pub pointsIn : Table → Bool → List ℕ → List ℕ
-pointsIn t substitute s = toRun codePoints t substitute s (length s) .bytes
+abbrev pub pointsIn : Table → Settings → List ℕ → List ℕ
+pointsIn t settings s = toRun codePoints t settings s (length s) .bytes
 
 -- code points, spelt out in a Unicode side
 unfoldable pub spell : Side → List ℕ → List ℕ
@@ -85,14 +89,36 @@ pub record WellFormedText (bs : List ℕ) : Type 0 where
   pub joined : bs ≡ flatten sequences
   pub formed : Every (λ q. wellFormed q ≡ true) sequences
 
--- a complete code that round-trips ('comes home' in document 01): it reads as a code point that is written as the same code
+-- A CODE COMES HOME: it reads as a code point which, strict, under the same fallback setting, is written as the same code
+pub record ComesHome (t : Table) (fallback : Bool) (c : List ℕ) : Type 0 where
+  pub line : Line
+  pub reads : reader c (t .lines) ≡ some line
+  pub written : writes t fallback (line .point) ≡ Written.code c
+
+-- the same of two conversions, each with its input and a space: one reads the code whole, the other reads whole what that wrote
+-- and writes the code
+abbrev pub ThereAndBack : (List ℕ → ℕ → Run) → (List ℕ → ℕ → Run) → List ℕ → ℕ → ℕ → Type 0
+ThereAndBack to from c room room′ =
+    let there = to c room in
+    let back = from (there .bytes) room′ in
+    (there .halt ≡ All) × (back .halt ≡ All) × (back .bytes ≡ c)
+
+-- of the strict conversions by a table
+abbrev pub HomeByRuns : Table → Bool → List ℕ → ℕ → ℕ → Type 0
+HomeByRuns t fallback = ThereAndBack (toRun utf8 t (strict fallback)) (fromRun utf8 t (strict fallback))
+
+-- of what the functions promise on a record and lent slices, whatever they are
+abbrev pub HomeByCalls : Record → Slices → Bool → List ℕ → ℕ → ℕ → Type 0
+HomeByCalls rec m fallback =
+    ThereAndBack (toTested utf8 limits rec m (strict fallback))
+    (fromTested utf8 limits rec m (strict fallback))
+
+-- a complete code that comes home
 pub record RoundTrip (t : Table) (fallback : Bool) : Type 0 where
   pub code : List ℕ
-  pub line : Line
   pub bytes : AllByte code
-  pub whole : endKind (stepsOf t) 0 code ≡ 0 → ⊥
-  pub reads : reader code (t .lines) ≡ some line
-  pub written : writes t fallback (line .point) ≡ Written.code code
+  pub whole : isCode (stepsOf t) 0 code ≡ true
+  pub home : ComesHome t fallback code
 
 -- a frame made of such codes, and their code points
 unfoldable pub frameOf : {t : Table} {fallback : Bool} → List (RoundTrip t fallback) → List ℕ
@@ -101,4 +127,4 @@ frameOf (h ∷ l) = h .code ++ frameOf l
 
 unfoldable pub pointsOf : {t : Table} {fallback : Bool} → List (RoundTrip t fallback) → List ℕ
 pointsOf [] = []
-pointsOf (h ∷ l) = h .line .point ∷ pointsOf l
+pointsOf (h ∷ l) = h .home .line .point ∷ pointsOf l

@@ -61,6 +61,10 @@ haltNumber Full = 50
 haltNumber BadTable = 60
 haltNumber (Stopped w) = stopNumber w
 
+-- and of a run, by its end
+abbrev pub runNumber : Run → ℕ
+runNumber r = haltNumber (r .halt)
+
 -- what the laws of a run ask of its step
 pub record Sound (step : Step) : Type 0 where
   pub some : (st : ℕ) (s bs : List ℕ) (n next : ℕ) → step st s ≡ give bs n next → 0 < n

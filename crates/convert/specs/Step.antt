@@ -1,7 +1,8 @@
 -- What one sequence gives, on either side, by the lines of a table. The Unicode side is a parameter.
 use Prim.Native.Nat.{ℕ}
+use mathlib.Core.Path.{_≡_}
 use mathlib.Core.List.{List, [], _∷_}
-use mathlib.Core.Bool.{Bool}
+use mathlib.Core.Bool.{Bool, true, false}
 use mathlib.Core.Option.{Option, none, some}
 use lib.Dec.{eqb}
 use lib.ListN.{take}
@@ -9,24 +10,41 @@ use Rattle.lists.specs.Pick.{pick}
 use Rattle.unicode.specs.Utf8.{decodeOne, encodeOf, Scalar}
 use Rattle.unicode.specs.declared.utf8.Sequence.{Sequence}
 use Rattle.unicode.specs.declared.utf8.Sequence.the-variants as sequence
+use Rattle.unicode.specs.declared.utf8.Stop.{Stop}
 use Rattle.unicode.specs.declared.utf8.Stop.the-variants as stopped
 use Rattle.table.specs.States.{cutOf}
-use Rattle.table.specs.Codes.{unpacked}
-use Rattle.table.specs.Meaning.{Line, Table, stepsOf, reader, writer}
+use Rattle.table.specs.Codes.{unpacked, bytesOf}
+use Rattle.table.specs.Meaning.{Line, Table, stepsOf, isSubstituted, reader, writer}
 use Rattle.table.specs.declared.states.Cut.{Cut}
 use Rattle.table.specs.declared.states.Cut.the-variants as cut
 use Rattle.table.specs.declared.states.Halt.the-variants as halt
+use Rattle.table.specs.declared.lookup.Mapping.{Mapping}
+use Rattle.table.specs.declared.lookup.Found.{Found}
+use Rattle.table.specs.declared.lookup.Found.the-variants as found
 use Rattle.convert.specs.Run.{Gives, give, stop, Step}
+use Rattle.convert.specs.declared.ReadAs.{ReadAs}
+use Rattle.convert.specs.declared.ReadAs.the-variants as read
+use Rattle.convert.specs.declared.WrittenAs.{WrittenAs}
+use Rattle.convert.specs.declared.WrittenAs.the-variants as written
 use Rattle.convert.specs.declared.Sent.{Sent}
+use Rattle.convert.specs.declared.Settings.{Settings}
 use Rattle.convert.specs.declared.Sent.the-variants as sent
 
--- a Unicode encoding form: one code point from the front of a list, and a code point as a list
+-- a Unicode encoding form: one code point from the front of a list, a code point as a list, and the length of a code unit
 pub record Side : Type 0 where
   pub decode : List ℕ → Sequence
   pub encode : ℕ → List ℕ
+  pub unit : ℕ
 
 abbrev pub utf8 : Side
-utf8 = record { decode = decodeOne; encode = encodeOf }
+utf8 = record { decode = decodeOne; encode = encodeOf; unit = 1 }
+
+-- the settings of a conversion that does not substitute, and of one that does, by whether fallback is on
+abbrev pub strict : Bool → Settings
+strict fallback = record { fallback = fallback; substitute = false }
+
+abbrev pub substituting : Bool → Settings
+substituting fallback = record { fallback = fallback; substitute = true }
 
 -- TO UNICODE. What stands for an unassigned code of n bytes: U+001A for one byte where subchar1 is given, else U+FFFD
 abbrev pub substitutePoint : Option ℕ → ℕ → ℕ
@@ -39,21 +57,31 @@ pointFor sub1 substitute n (some l) = sequence.Scalar (l .point) n
 pointFor sub1 substitute n none =
     pick substitute (sequence.Scalar (substitutePoint sub1 n) n) (sequence.Stopped stopped.Unassigned)
 
+-- the code point that a code reads as, by the line that reads it
+abbrev pub readAs : Option Line → Option ℕ
+readAs none = none
+readAs (some l) = some (l .point)
+
+-- the choice towards Unicode, as the function hands it back
+abbrev pub pointIn : ReadAs → Option ℕ
+pointIn (read.Point c) = some c
+pointIn read.Nothing = none
+
 abbrev pub onCut : Table → Bool → List ℕ → Cut → Sequence
 onCut t substitute s (cut.Stopped halt.CutShort) = sequence.Stopped stopped.CutShort
 onCut t substitute s (cut.Stopped (halt.Illegal n)) = sequence.Stopped (stopped.Illegal n)
 onCut t substitute s (cut.Complete n e) = pointFor (t .subchar1) substitute n (reader (take n s) (t .lines))
 
 -- one sequence of the table's bytes, cut by the states from its initial row on
-unfoldable pub toSequence : Table → Bool → ℕ → List ℕ → Sequence
-toSequence t substitute row s = onCut t substitute s (cutOf (stepsOf t) row s)
+unfoldable pub toSequence : Table → Settings → ℕ → List ℕ → Sequence
+toSequence t settings row s = onCut t (settings .substitute) s (cutOf (stepsOf t) row s)
 
 abbrev pub encoded : Side → ℕ → Sequence → Gives
 encoded u row (sequence.Scalar c n) = give (u .encode c) n row
 encoded u row (sequence.Stopped w) = stop w
 
-unfoldable pub toStep : Side → Table → Bool → Step
-toStep u t substitute row s = encoded u row (toSequence t substitute row s)
+unfoldable pub toStep : Side → Table → Settings → Step
+toStep u t settings row s = encoded u row (toSequence t settings row s)
 
 -- FROM UNICODE. What a code point becomes: its code; subchar1; or nothing that the table has
 pub data Written : Type 0 where
@@ -61,12 +89,25 @@ pub data Written : Type 0 where
   subchar1 : Written
   nothing : Written
 
--- `|0` always writes, `|1` only with fallback on, `|2` is substituted by subchar1
+-- `|0` always writes, `|1` only with fallback on, `|2` is substituted by subchar1; no other line writes
 abbrev pub writtenBy : Bool → Option Line → Written
 writtenBy fallback none = nothing
 writtenBy fallback (some l) =
     pick (eqb (l .indicator) 0) (code (l .code))
-    (pick (eqb (l .indicator) 1) (pick fallback (code (l .code)) nothing) subchar1)
+    (pick (eqb (l .indicator) 1) (pick fallback (code (l .code)) nothing)
+    (pick (isSubstituted l) subchar1 nothing))
+
+-- the choice from Unicode, as the function hands it back
+abbrev pub writtenIn : WrittenAs → Written
+writtenIn (written.Code c) = code (bytesOf c)
+writtenIn written.Subchar1 = subchar1
+writtenIn written.Nothing = nothing
+
+-- a code that is written is that of the line that was found
+abbrev pub OwnCode : Found → WrittenAs → Type 0
+OwnCode f (written.Code c) = (m : Mapping) × (f ≡ found.Line m) × (m .code ≡ c)
+OwnCode f written.Subchar1 = Unit {0}
+OwnCode f written.Nothing = Unit {0}
 
 -- what a code point is written as
 unfoldable pub writes : Table → Bool → ℕ → Written
@@ -86,13 +127,19 @@ sentFor t substitute row n (code c) = give c n row
 sentFor t substitute row n subchar1 = substituted substitute (sub1Bytes (t .subchar1) (t .subchar)) n row
 sentFor t substitute row n nothing = substituted substitute (t .subchar) n row
 
-abbrev pub onSequence : Table → Bool → Bool → ℕ → Sequence → Gives
-onSequence t fallback substitute row (sequence.Stopped w) = stop w
-onSequence t fallback substitute row (sequence.Scalar c n) = sentFor t substitute row n (writes t fallback c)
+-- a stop on the Unicode side: an illegal sequence counts as one code unit, however far the decoder had to look
+abbrev pub stoppedBy : Side → Stop → Stop
+stoppedBy u stopped.CutShort = stopped.CutShort
+stoppedBy u (stopped.Illegal n) = stopped.Illegal (u .unit)
+stoppedBy u stopped.Unassigned = stopped.Unassigned
+
+abbrev pub onSequence : Side → Table → Bool → Bool → ℕ → Sequence → Gives
+onSequence u t fallback substitute row (sequence.Stopped w) = stop (stoppedBy u w)
+onSequence u t fallback substitute row (sequence.Scalar c n) = sentFor t substitute row n (writes t fallback c)
 
 -- one sequence of the Unicode side
-unfoldable pub fromStep : Side → Table → Bool → Bool → Step
-fromStep u t fallback substitute row s = onSequence t fallback substitute row (u .decode s)
+unfoldable pub fromStep : Side → Table → Settings → Step
+fromStep u t settings row s = onSequence u t (settings .fallback) (settings .substitute) row (u .decode s)
 
 -- what is sent, as bytes: the code's bits hold its bytes, the first on top
 abbrev pub sentOf : Sent → Gives

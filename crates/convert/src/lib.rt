@@ -1,9 +1,10 @@
 // The two conversions: from a table's bytes to UTF-8, and back.
 mod hints;
 
+use table::lookup::Found;
+use table::lookup::Use;
 use table::states::Code;
 use table::states::Cut;
-use table::store::Found;
 use table::valid::Record;
 use unicode::utf8::Put;
 use unicode::utf8::Sequence;
@@ -18,18 +19,18 @@ ghost use lib.Seq.{sets};
 ghost use Rattle.lists.specs.Pick.{pick};
 ghost use Rattle.lists.specs.Place.{fits, placed};
 ghost use Rattle.table.specs.Limits.{limits};
-ghost use Rattle.table.specs.Codes.{packed, unpacked};
+ghost use Rattle.table.specs.Codes.{packed, unpacked, bytesOf};
+ghost use Rattle.table.specs.Meaning.{Table};
+ghost use Rattle.table.specs.Slices.{slices};
+ghost use Rattle.table.specs.Lookup.{lineFound};
 ghost use Rattle.table.specs.Memory.{tableIn, sub1In};
 ghost use Rattle.table.specs.Valid.{valid};
-ghost use Rattle.convert.specs.Run.{doneOf, putOut, haltNumber};
-ghost use Rattle.convert.specs.Step.{utf8, pointFor, toSequence, writes, sentFor, fromStep, sentOf, substituted};
+ghost use Rattle.convert.specs.Run.{doneOf, putOut, haltNumber, runNumber};
+ghost use Rattle.convert.specs.Step.{utf8, pointFor, toSequence, readAs, pointIn, writtenBy, writtenIn, OwnCode, sentFor, stoppedBy, fromStep, sentOf, substituted};
 ghost use Rattle.convert.specs.Convert.{toRun, fromRun, toTested, fromTested};
 
-// The first byte of a code's 32 bits stands above this; so does the count of a stored code's other bytes.
+// What one in the first of a code's four bytes is worth in its 32 bits.
 const TOP: u32 = 16777216;
-
-// A stored code point stands below this, and its rank above.
-const RANK: u32 = 2097152;
 
 // An input of fewer bytes is converted without hints: filling them in would cost more than they save.
 const SHORT: usize = 64;
@@ -49,6 +50,26 @@ pub struct Done {
     pub written: usize,
 }
 
+// What a code reads as: a code point, or that no line reads it.
+pub enum ReadAs {
+    Point(u32),
+    Nothing,
+}
+
+// What a code point is written as: its code, subchar1, or nothing that the table has.
+pub enum WrittenAs {
+    Code(Code),
+    Subchar1,
+    Nothing,
+}
+
+// The settings of a conversion: whether `|1` lines are written, and whether what has no mapping is substituted. Towards
+// Unicode the first is not looked at.
+pub struct Settings {
+    pub fallback: bool,
+    pub substitute: bool,
+}
+
 // What one sequence of the Unicode side becomes: a code of the table and how many bytes were read, or a stop.
 pub enum Sent {
     Code(u32, u32, usize),
@@ -64,6 +85,45 @@ pub fn halt_number(h: Halt) -> u32
         Halt::Full => 50,
         Halt::BadTable => 60,
         Halt::Stopped(stop) => unicode::utf8::stop_number(stop),
+    }
+}
+
+// The choice towards Unicode: what a code reads as, by the line that reads it.
+pub fn read_as(found: Found) -> ReadAs
+    ensures { λ r. ⌜ pointIn r ≡ readAs (lineFound found) ⌝ }
+{
+    match found {
+        Found::Line(line) => ReadAs::Point(line.point),
+        Found::Nothing => ReadAs::Nothing,
+    }
+}
+
+// The choice from Unicode: what a code point is written as under a fallback setting, by the line that says so.
+pub fn write_as(found: Found, fallback: bool) -> WrittenAs
+    ensures { λ r. ⌜ (writtenIn r ≡ writtenBy fallback (lineFound found)) × OwnCode found r ⌝ }
+{
+    let Found::Line(line) = found else {
+        return WrittenAs::Nothing;
+    };
+    let bits = line.code.bits;
+    let len = line.code.len;
+    let used = line.used;
+    match used {
+        Use::RoundTrip => WrittenAs::Code(Code {
+            bits: bits,
+            len: len,
+        }),
+        Use::Fallback => {
+            if fallback {
+                return WrittenAs::Code(Code {
+                    bits: bits,
+                    len: len,
+                });
+            }
+            WrittenAs::Nothing
+        }
+        Use::Substituted => WrittenAs::Subchar1,
+        Use::ReverseFallback => WrittenAs::Nothing,
     }
 }
 
@@ -118,10 +178,11 @@ fn to_step(
     infos: &[u32],
     hints: &[u16],
     s: &[u8],
-    substitute: bool,
+    settings: Settings,
 ) -> Sequence
-    ensures { λ r. ⌜ ((order : List ℕ) → valid limits rec (now (states .entry)) (now (codes .entry)) (now (infos .entry)) order ≡ true
-        → r ≡ toSequence (tableIn rec (now (states .entry)) (now (codes .entry)) (now (infos .entry))) substitute 0 (now (s .entry))) ⌝ }
+    ensures { λ r. ⌜ ((order : List ℕ) → let m = slices (now (states .entry)) (now (codes .entry)) (now (infos .entry)) order in
+        valid limits rec m ≡ true
+        → r ≡ toSequence (tableIn rec m) settings 0 (now (s .entry))) ⌝ }
 {
     match table::states::cut_one(states, 0, s) {
         Cut::Stopped(halt) => match halt {
@@ -135,9 +196,9 @@ fn to_step(
                 bits: bits,
                 len: n as u32,
             };
-            match table::store::find_code_near(codes, infos, rec.mappings, code, at) {
-                Found::Hit(_, info) => Sequence::Scalar(info % RANK, n),
-                Found::Nothing => unassigned(rec.subchar1, n, substitute),
+            match read_as(table::lookup::find_code_near(rec, codes, infos, code, at)) {
+                ReadAs::Point(c) => Sequence::Scalar(c, n),
+                ReadAs::Nothing => unassigned(rec.subchar1, n, settings.substitute),
             }
         }
     }
@@ -153,41 +214,33 @@ fn substitute_code(bits: u32, len: u32, n: usize, substitute: bool) -> Sent
     Sent::Stopped(Stop::Unassigned)
 }
 
-// What a code point of n bytes is written as. A `|2` line has the very byte of subchar1 (T8). Of memory that does not
-// pass the test behind 60 the contract says nothing.
-fn code_for(
-    rec: Record,
-    codes: &[u32],
-    infos: &[u32],
-    order: &[u32],
-    hints: &[u16],
-    c: u32,
-    n: usize,
-    fallback: bool,
-    substitute: bool,
-) -> Sent
-    ensures { λ r. ⌜ ((states : List ℕ) → valid limits rec states (now (codes .entry)) (now (infos .entry)) (now (order .entry)) ≡ true
-        → sentOf r ≡ sentFor (tableIn rec states (now (codes .entry)) (now (infos .entry))) substitute 0 n
-        (writes (tableIn rec states (now (codes .entry)) (now (infos .entry))) fallback c)) ⌝ }
+// The code for a code point of n bytes, by what it is written as.
+fn code_for(rec: Record, written: WrittenAs, n: usize, settings: Settings) -> Sent
+    ensures { λ r. ⌜ ((t : Table) → t .subchar ≡ bytesOf (rec .subchar) → t .subchar1 ≡ sub1In (rec .subchar1) → rec .subchar1 ≤ 256
+        → sentOf r ≡ sentFor t (settings .substitute) 0 n (writtenIn written)) ⌝ }
 {
     let sub = rec.subchar;
-    let at = hints::hint_at(hints, hints::point_slot(c));
-    match table::store::find_point_near(codes, infos, order, rec.mappings, c, at) {
-        Found::Nothing => substitute_code(sub.bits, sub.len, n, substitute),
-        Found::Hit(bits, info) => {
-            let len = info / TOP + 1;
-            let rank = info / RANK % 8;
-            if rank == 0 {
-                return Sent::Code(bits, len, n);
+    match written {
+        WrittenAs::Code(code) => Sent::Code(code.bits, code.len, n),
+        WrittenAs::Nothing => substitute_code(sub.bits, sub.len, n, settings.substitute),
+        WrittenAs::Subchar1 => {
+            if rec.subchar1 == 0 {
+                return substitute_code(sub.bits, sub.len, n, settings.substitute);
             }
-            if rank != 2 {
-                return substitute_code(bits, len, n, substitute);
-            }
-            if fallback {
-                return Sent::Code(bits, len, n);
-            }
-            substitute_code(sub.bits, sub.len, n, substitute)
+            let one = on_top(((rec.subchar1 - 1) % 256) as u8);
+            substitute_code(one, 1, n, settings.substitute)
         }
+    }
+}
+
+// A stop of UTF-8: an illegal sequence counts as one byte, however far the decoder had to look.
+fn one_byte(stop: Stop) -> Stop
+    ensures { λ r. ⌜ r ≡ stoppedBy utf8 stop ⌝ }
+{
+    match stop {
+        Stop::CutShort => Stop::CutShort,
+        Stop::Illegal(_) => Stop::Illegal(1),
+        Stop::Unassigned => Stop::Unassigned,
     }
 }
 
@@ -199,25 +252,19 @@ fn from_step(
     order: &[u32],
     hints: &[u16],
     s: &[u8],
-    fallback: bool,
-    substitute: bool,
+    settings: Settings,
 ) -> Sent
-    ensures { λ r. ⌜ ((states : List ℕ) → valid limits rec states (now (codes .entry)) (now (infos .entry)) (now (order .entry)) ≡ true
-        → sentOf r ≡ fromStep utf8 (tableIn rec states (now (codes .entry)) (now (infos .entry))) fallback substitute 0 (now (s .entry))) ⌝ }
+    ensures { λ r. ⌜ ((states : List ℕ) → let m = slices states (now (codes .entry)) (now (infos .entry)) (now (order .entry)) in
+        valid limits rec m ≡ true
+        → sentOf r ≡ fromStep utf8 (tableIn rec m) settings 0 (now (s .entry))) ⌝ }
 {
     match unicode::utf8::decode(s) {
-        Sequence::Stopped(stop) => Sent::Stopped(stop),
-        Sequence::Scalar(c, n) => code_for(
-            rec,
-            codes,
-            infos,
-            order,
-            hints,
-            c,
-            n,
-            fallback,
-            substitute,
-        ),
+        Sequence::Stopped(stop) => Sent::Stopped(one_byte(stop)),
+        Sequence::Scalar(c, n) => {
+            let at = hints::hint_at(hints, hints::point_slot(c));
+            let found = table::lookup::find_point_near(rec, codes, infos, order, c, at);
+            code_for(rec, write_as(found, settings.fallback), n, settings)
+        }
     }
 }
 
@@ -275,16 +322,18 @@ fn to_run(
     hints: &[u16],
     input: &[u8],
     out: &mut [u8],
-    substitute: bool,
+    settings: Settings,
 ) -> Done
-    requires { ⌜ valid limits rec (now states) (now codes) (now infos) (now order) ≡ true ⌝ }
-    ensures { λ r. ⌜ (r ≡ doneOf (toRun utf8 (tableIn rec (now (states .entry)) (now (codes .entry)) (now (infos .entry))) substitute (now (input .entry)) (length (now (out .entry)))))
-        × (now (out .exit) ≡ putOut (toRun utf8 (tableIn rec (now (states .entry)) (now (codes .entry)) (now (infos .entry))) substitute (now (input .entry)) (length (now (out .entry)))) (now (out .entry))) ⌝ }
+    requires { ⌜ valid limits rec (slices (now states) (now codes) (now infos) (now order)) ≡ true ⌝ }
+    ensures { λ r. ⌜ (let m = slices (now (states .entry)) (now (codes .entry)) (now (infos .entry)) (now (order .entry)) in
+        let run = toRun utf8 (tableIn rec m) settings (now (input .entry)) (length (now (out .entry))) in
+        (r ≡ doneOf run)
+        × (now (out .exit) ≡ putOut run (now (out .entry)))) ⌝ }
 {
     let mut at = 0;
     let mut w = 0;
     while at < input.len() {
-        let sequence = to_step(rec, states, codes, infos, hints, &input[at..], substitute);
+        let sequence = to_step(rec, states, codes, infos, hints, &input[at..], settings);
         match sequence {
             Sequence::Stopped(stop) => {
                 return Done {
@@ -335,11 +384,13 @@ fn to_hinted(
     order: &[u32],
     input: &[u8],
     out: &mut [u8],
-    substitute: bool,
+    settings: Settings,
 ) -> Done
-    requires { ⌜ valid limits rec (now states) (now codes) (now infos) (now order) ≡ true ⌝ }
-    ensures { λ r. ⌜ (r ≡ doneOf (toRun utf8 (tableIn rec (now (states .entry)) (now (codes .entry)) (now (infos .entry))) substitute (now (input .entry)) (length (now (out .entry)))))
-        × (now (out .exit) ≡ putOut (toRun utf8 (tableIn rec (now (states .entry)) (now (codes .entry)) (now (infos .entry))) substitute (now (input .entry)) (length (now (out .entry)))) (now (out .entry))) ⌝ }
+    requires { ⌜ valid limits rec (slices (now states) (now codes) (now infos) (now order)) ≡ true ⌝ }
+    ensures { λ r. ⌜ (let m = slices (now (states .entry)) (now (codes .entry)) (now (infos .entry)) (now (order .entry)) in
+        let run = toRun utf8 (tableIn rec m) settings (now (input .entry)) (length (now (out .entry))) in
+        (r ≡ doneOf run)
+        × (now (out .exit) ≡ putOut run (now (out .entry)))) ⌝ }
 {
     if input.len() < SHORT {
         let none = [0u16; 1];
@@ -352,7 +403,7 @@ fn to_hinted(
             &none[..0],
             input,
             out,
-            substitute,
+            settings,
         );
     }
     let n = rec.mappings as usize;
@@ -367,7 +418,7 @@ fn to_hinted(
         &filled,
         input,
         out,
-        substitute,
+        settings,
     )
 }
 
@@ -381,26 +432,18 @@ fn from_run(
     hints: &[u16],
     input: &[u8],
     out: &mut [u8],
-    fallback: bool,
-    substitute: bool,
+    settings: Settings,
 ) -> Done
-    requires { ⌜ valid limits rec (now states) (now codes) (now infos) (now order) ≡ true ⌝ }
-    ensures { λ r. ⌜ (r ≡ doneOf (fromRun utf8 (tableIn rec (now (states .entry)) (now (codes .entry)) (now (infos .entry))) fallback substitute (now (input .entry)) (length (now (out .entry)))))
-        × (now (out .exit) ≡ putOut (fromRun utf8 (tableIn rec (now (states .entry)) (now (codes .entry)) (now (infos .entry))) fallback substitute (now (input .entry)) (length (now (out .entry)))) (now (out .entry))) ⌝ }
+    requires { ⌜ valid limits rec (slices (now states) (now codes) (now infos) (now order)) ≡ true ⌝ }
+    ensures { λ r. ⌜ (let m = slices (now (states .entry)) (now (codes .entry)) (now (infos .entry)) (now (order .entry)) in
+        let run = fromRun utf8 (tableIn rec m) settings (now (input .entry)) (length (now (out .entry))) in
+        (r ≡ doneOf run)
+        × (now (out .exit) ≡ putOut run (now (out .entry)))) ⌝ }
 {
     let mut at = 0;
     let mut w = 0;
     while at < input.len() {
-        let sent = from_step(
-            rec,
-            codes,
-            infos,
-            order,
-            hints,
-            &input[at..],
-            fallback,
-            substitute,
-        );
+        let sent = from_step(rec, codes, infos, order, hints, &input[at..], settings);
         match sent {
             Sent::Stopped(stop) => {
                 return Done {
@@ -438,12 +481,13 @@ fn from_hinted(
     order: &[u32],
     input: &[u8],
     out: &mut [u8],
-    fallback: bool,
-    substitute: bool,
+    settings: Settings,
 ) -> Done
-    requires { ⌜ valid limits rec (now states) (now codes) (now infos) (now order) ≡ true ⌝ }
-    ensures { λ r. ⌜ (r ≡ doneOf (fromRun utf8 (tableIn rec (now (states .entry)) (now (codes .entry)) (now (infos .entry))) fallback substitute (now (input .entry)) (length (now (out .entry)))))
-        × (now (out .exit) ≡ putOut (fromRun utf8 (tableIn rec (now (states .entry)) (now (codes .entry)) (now (infos .entry))) fallback substitute (now (input .entry)) (length (now (out .entry)))) (now (out .entry))) ⌝ }
+    requires { ⌜ valid limits rec (slices (now states) (now codes) (now infos) (now order)) ≡ true ⌝ }
+    ensures { λ r. ⌜ (let m = slices (now (states .entry)) (now (codes .entry)) (now (infos .entry)) (now (order .entry)) in
+        let run = fromRun utf8 (tableIn rec m) settings (now (input .entry)) (length (now (out .entry))) in
+        (r ≡ doneOf run)
+        × (now (out .exit) ≡ putOut run (now (out .entry)))) ⌝ }
 {
     if input.len() < SHORT {
         let none = [0u16; 1];
@@ -456,8 +500,7 @@ fn from_hinted(
             &none[..0],
             input,
             out,
-            fallback,
-            substitute,
+            settings,
         );
     }
     let n = rec.mappings as usize;
@@ -472,8 +515,7 @@ fn from_hinted(
         &filled,
         input,
         out,
-        fallback,
-        substitute,
+        settings,
     )
 }
 
@@ -486,10 +528,13 @@ pub fn to_utf8(
     order: &[u32],
     input: &[u8],
     out: &mut [u8],
-    substitute: bool,
+    settings: Settings,
 ) -> Done
-    ensures { λ r. ⌜ (r ≡ doneOf (toTested utf8 limits rec (now (states .entry)) (now (codes .entry)) (now (infos .entry)) (now (order .entry)) substitute (now (input .entry)) (length (now (out .entry)))))
-        × (now (out .exit) ≡ putOut (toTested utf8 limits rec (now (states .entry)) (now (codes .entry)) (now (infos .entry)) (now (order .entry)) substitute (now (input .entry)) (length (now (out .entry)))) (now (out .entry))) ⌝ }
+    ensures { λ r. ⌜ (let m = slices (now (states .entry)) (now (codes .entry)) (now (infos .entry)) (now (order .entry)) in
+        let run = toTested utf8 limits rec m settings (now (input .entry)) (length (now (out .entry))) in
+        (r ≡ doneOf run)
+        × (now (out .exit) ≡ putOut run (now (out .entry)))
+        × (haltNumber (r .halt) ≡ runNumber run)) ⌝ }
 {
     if !table::valid::memory_valid(rec, states, codes, infos, order) {
         return Done {
@@ -498,7 +543,7 @@ pub fn to_utf8(
             written: 0,
         };
     }
-    to_hinted(rec, states, codes, infos, order, input, out, substitute)
+    to_hinted(rec, states, codes, infos, order, input, out, settings)
 }
 
 // From UTF-8 to a table's bytes: the test behind number 60 first, then sequence by sequence.
@@ -510,11 +555,13 @@ pub fn from_utf8(
     order: &[u32],
     input: &[u8],
     out: &mut [u8],
-    fallback: bool,
-    substitute: bool,
+    settings: Settings,
 ) -> Done
-    ensures { λ r. ⌜ (r ≡ doneOf (fromTested utf8 limits rec (now (states .entry)) (now (codes .entry)) (now (infos .entry)) (now (order .entry)) fallback substitute (now (input .entry)) (length (now (out .entry)))))
-        × (now (out .exit) ≡ putOut (fromTested utf8 limits rec (now (states .entry)) (now (codes .entry)) (now (infos .entry)) (now (order .entry)) fallback substitute (now (input .entry)) (length (now (out .entry)))) (now (out .entry))) ⌝ }
+    ensures { λ r. ⌜ (let m = slices (now (states .entry)) (now (codes .entry)) (now (infos .entry)) (now (order .entry)) in
+        let run = fromTested utf8 limits rec m settings (now (input .entry)) (length (now (out .entry))) in
+        (r ≡ doneOf run)
+        × (now (out .exit) ≡ putOut run (now (out .entry)))
+        × (haltNumber (r .halt) ≡ runNumber run)) ⌝ }
 {
     if !table::valid::memory_valid(rec, states, codes, infos, order) {
         return Done {
@@ -523,15 +570,5 @@ pub fn from_utf8(
             written: 0,
         };
     }
-    from_hinted(
-        rec,
-        states,
-        codes,
-        infos,
-        order,
-        input,
-        out,
-        fallback,
-        substitute,
-    )
+    from_hinted(rec, states, codes, infos, order, input, out, settings)
 }

@@ -10,10 +10,11 @@ use Rattle.lists.specs.Order.{All}
 use Rattle.lists.proofs.Cases.{pick-case}
 use Rattle.lists.proofs.Laws.{drop-step, drop-end}
 use Rattle.lists.proofs.Stores.{sets-append}
-use Rattle.table.specs.Codes.{unpacked}
+use Rattle.table.specs.Codes.{bytesOf}
 use Rattle.table.proofs.Packing.{unpack}
 use Rattle.audit.specs.Audit.{Finding, entryNumber}
-use Rattle.audit.proofs.EntryNumbers.{bits-told, length-told, cause-told}
+use Rattle.audit.specs.declared.Entry.{Entry}
+use Rattle.audit.proofs.EntryNumbers.{entry-told}
 use Rattle.audit.proofs.Forward.{Found}
 use Rattle.frames.specs.Lines.{hexCount, decimalCount, findingLine, roomAfter, putInto}
 use Rattle.frames.specs.Pages.{findingLines, entryLine, entryLines}
@@ -40,7 +41,7 @@ lines-short (f ∷ l) h = omega (arith, length-append (findingLine (f .code) (f 
 -- its number tells it
 line-told : (f : Finding) → Found f → entryLine (entryNumber f) ≡ findingLine (f .code) (f .cause)
 line-told f h =
-    (λ i. findingLine (unpacked (length-told f (h .bytes) (h .short) i) (bits-told f (h .bytes) (h .short) i)) (cause-told f (h .bytes) (h .short) i))
+    ap (λ (e : Entry). findingLine (bytesOf (e .code)) (e .cause)) (entry-told f (h .bytes) (h .short))
     ∙ ap (λ (c : List ℕ). findingLine c (f .cause)) (unpack (f .code) (h .bytes) (h .short))
 
 pub lines-told : (l : List Finding) → All Found l → entryLines (map entryNumber l) ≡ findingLines l

@@ -2,7 +2,7 @@
 use mathlib.Core.Path.{_≡_, refl, sym, ap, _∙_, subst}
 use mathlib.Core.Bool.{Bool, true, false}
 use mathlib.Core.List.{List, _++_, map, append-assoc}
-use Prim.Native.Nat.{ℕ, _+_, _-_, _*_, _/_, _%_, _≤_, _<_}
+use Prim.Native.Nat.{ℕ, _+_, _*_, _/_, _%_, _≤_, _<_}
 use native.Mathlib.Omega.{arith}
 use lib.Dec.{ltb, lit≤}
 use lib.ListN.{length, take, drop, length-append, length-map, length-drop}
@@ -11,6 +11,8 @@ use borrow.Author.Tests.{ltb-false}
 use Rattle.lists.proofs.Cases.{pick-case}
 use Rattle.lists.proofs.Front.{front-counts}
 use Rattle.table.specs.Limits.{limits}
+use Rattle.table.specs.Slices.{Slices}
+use Rattle.table.specs.declared.states.Code.{Code}
 use Rattle.table.specs.declared.valid.Record.{Record}
 use Rattle.audit.specs.Audit.{Finding, Answer, entryNumber, auditTested, auditedOf, spaceAfter}
 use Rattle.audit.specs.declared.Audited.{Audited}
@@ -39,12 +41,22 @@ more-told Looked false h = (refl, refl)
 more-told BadPosition finished h = let z : _≡_ {A = ℕ} 0 1 = cc in absurd (omega arith)
 more-told BadTable finished h = let z : _≡_ {A = ℕ} 0 1 = cc in absurd (omega arith)
 
-module _ (rec : Record) (states codes infos order : List ℕ) (done : Listing) (out : List ℕ) where
+-- a page with room for a finding behind which there is more leaves fewer codes
+pub page-falls : (rec : Record) (lent : Slices) (pos : Code) (room : ℕ) → 11 ≤ room
+    → let a = pageIn rec lent pos room in
+    moreAfter (a .ending) (a .page .finished) ≡ true → codesLeft rec lent (a .page .position) < codesLeft rec lent pos
+unfolding codesLeft
+page-falls rec lent pos room h m =
+    let a = pageIn rec lent pos room in
+    let t = more-told (a .ending) (a .page .finished) m in
+    fewer-left rec lent false pos 18446744073709551615 (pageSpace room) (t .0) (t .1) (lit≤ tt) (space-some room h)
+
+module _ (rec : Record) (lent : Slices) (done : Listing) (out : List ℕ) where
   abbrev asked : ℕ → Answer
-  asked space = auditTested limits rec states codes infos order false (done .position) 18446744073709551615 space
+  asked space = auditTested limits rec lent false (done .position) 18446744073709551615 space
 
   abbrev page : Answer
-  page = pageIn rec states codes infos order (done .position) (length out)
+  page = pageIn rec lent (done .position) (length out)
 
   abbrev found : List Finding
   found = page .page .entries
@@ -64,13 +76,11 @@ module _ (rec : Record) (states codes infos order : List ℕ) (done : Listing) (
     written-is = ap (λ (x : Audited). x .written) (told .0)
 
     -- what is left falls
-    pub codes-fall : moreAfter (r .ending) (r .finished) ≡ true → 11 ≤ length out → codesLeft rec states codes infos (r .position) < codesLeft rec states codes infos (done .position)
-    unfolding codesLeft
+    pub codes-fall : moreAfter (r .ending) (r .finished) ≡ true → 11 ≤ length out → codesLeft rec lent (r .position) < codesLeft rec lent (done .position)
     codes-fall m h =
         let e = told .0 in
-        let t = more-told (page .ending) (page .page .finished) (sym (ap (λ (x : Audited). moreAfter (x .ending) (x .finished)) e) ∙ m) in
-        subst (λ (x : Audited). codesLeft rec states codes infos (x .position) < codesLeft rec states codes infos (done .position)) (sym e)
-        (fewer-left rec states codes infos order false (done .position) 18446744073709551615 (pageSpace (length out)) (t .0) (t .1) (lit≤ tt) (space-some (length out) h))
+        subst (λ (x : Audited). codesLeft rec lent (x .position) < codesLeft rec lent (done .position)) (sym e)
+        (page-falls rec lent (done .position) (length out) h (sym (ap (λ (x : Audited). moreAfter (x .ending) (x .finished)) e) ∙ m))
 
     -- the entries stand in front of what the array has behind the lent part
     module _ (rest : List ℕ) where
@@ -86,7 +96,7 @@ module _ (rec : Record) (states codes infos order : List ℕ) (done : Listing) (
           ∙ take-at (map entryNumber found) (tail ++ rest) (length found) (length-map found entryNumber)
 
       pub lines-are : entryLines (take (r .written) (new ++ rest)) ≡ findingLines found
-      lines-are = ap entryLines front ∙ lines-told found (entries-found rec states codes infos order false (done .position) 18446744073709551615 (pageSpace (length out)))
+      lines-are = ap entryLines front ∙ lines-told found (entries-found rec lent false (done .position) 18446744073709551615 (pageSpace (length out)))
 
       pub lines-fit : length (entryLines (take (r .written) (new ++ rest))) ≤ length out
       lines-fit =
@@ -96,7 +106,7 @@ module _ (rec : Record) (states codes infos order : List ℕ) (done : Listing) (
             found-fit,
             space,
             space-fits (length out),
-            lines-short found (entries-found rec states codes infos order false (done .position) 18446744073709551615 (pageSpace (length out))),
+            lines-short found (entries-found rec lent false (done .position) 18446744073709551615 (pageSpace (length out))),
           )
 
       pub put-fit : (put : ℕ) (left : List ℕ) → put ≡ length (entryLines (take (r .written) (new ++ rest))) → length left ≡ length out → (put ≤ length left) × (put ≡ length (take put left))

@@ -5,7 +5,6 @@ use mathlib.Core.List.{List, [], _++_, append-nil, append-assoc}
 use Prim.Native.Nat.{ℕ, _+_, _-_, _≤_, _<_}
 use native.Mathlib.Omega.{arith}
 use native.Mathlib.Nat.{zero-add, add-assoc}
-use borrow.Author.Tests.{le-leb}
 use lib.ListN.{length, take, drop, take-append-drop, length-append, length-drop}
 use lib.Seq.{length-take-le, drop-drop, take-at, drop-at}
 use Rattle.lists.specs.Place.{placed}
@@ -19,6 +18,7 @@ use Rattle.frames.specs.declared.lines.Room.the-variants.{Put, Full}
 use Rattle.frames.specs.declared.report.Progress.{Progress}
 use Rattle.frames.proofs.Pieces.{kept-held}
 use Rattle.frames.proofs.Writes.{was-put, was-full}
+use Rattle.frames.proofs.Fronts.{put-front}
 use Rattle.frames.proofs.Tellings.{Ended, step-ended, kept-length, held-none, told-end, told-part, told-full, told-more, told-moves, told-within, told-fits}
 
 -- what the answer for a step tells: the line or the piece came to its end
@@ -57,11 +57,6 @@ told-after n m a b r = rw (add-assoc n m (r .taken), append-assoc a b (r .text))
 -- where a call ends: the answer, memory and the output slice
 abbrev pub Answered : ℕ → Told → List ℕ → Progress → List ℕ → List ℕ → Type 0
 Answered from all old r line out = (r ≡ progressOf from all) × (line ≡ all .memory) × (out ≡ putInto old 0 (all .text))
-
--- a text at the front of a slice that has room for it
-put-front : (old text : List ℕ) → length text ≤ length old → putInto old 0 text ≡ text ++ drop (length text) old
-unfolding putInto
-put-front old text b = simp (zero-add, le-leb (length text) (length old) b)
 
 stopped-at : (from : ℕ) (all : Told) (n m : ℕ) (l : Line) (memory line : List ℕ) (at put : ℕ) (p : Partial) (out old : List ℕ) → all ≡ toldAfter n (take put out) (stoppedIn m l memory)
     → put ≤ length out → length out ≡ length old → drop put out ≡ drop put old → at ≡ from + (n + m) → p ≡ partialOf l → line ≡ memory

@@ -5,6 +5,7 @@ use Prim.Native.Nat.{ℕ}
 use native.Mathlib.Omega.{arith}
 use lib.ListN.{length, drop}
 use Rattle.lists.specs.Order.{All}
+use Rattle.table.specs.Slices.{Slices}
 use Rattle.table.specs.declared.valid.Record.{Record}
 use Rattle.frames.specs.Stream.{Line, whole, cutLines, feed, lastLine, feedAll}
 use Rattle.frames.specs.Report.{convertIn, lineReport, linesReport, toldOf, Piece, Ample, Called, callsOn, inPieces, allText}
@@ -73,9 +74,12 @@ same-output write memory some others u v e =
     ∙ sym (whole-input write memory others v)
 
 -- THE PROGRAM'S REPORT: with as many calls as bytes, each with room for the widest line, every piece is read through, and nothing is left to suppose
-pub program-input : (rec : Record) (states codes infos order memory : List ℕ) (pieces : List Piece) → All (Ample 32777) pieces
-    → let write = lineReport (convertIn rec states codes infos order) in
-    allText write memory pieces ≡ linesReport write (cutLines (length memory) (flatten (map (λ (p : Piece). p .bytes) pieces)))
-program-input rec states codes infos order memory pieces a =
-    let write = lineReport (convertIn rec states codes infos order) in
-    whole-input write memory pieces (enough-pieces write 32777 (line-fits rec states codes infos order) pieces a memory (whole []))
+module _ (rec : Record) (m : Slices) (memory : List ℕ) (pieces : List Piece) (a : All (Ample 32777) pieces) where
+  abbrev write : Line → List ℕ
+  write = lineReport (convertIn rec m)
+
+  pub program-reads : inPieces write memory (whole []) pieces .unread ≡ []
+  program-reads = enough-pieces write 32777 (line-fits rec m) pieces a memory (whole [])
+
+  pub program-input : allText write memory pieces ≡ linesReport write (cutLines (length memory) (flatten (map (λ (p : Piece). p .bytes) pieces)))
+  program-input = whole-input write memory pieces program-reads

@@ -2,3 +2,5 @@ pub mod Lines
 pub mod Stream
 pub mod Report
 pub mod Pages
+pub mod Output
+pub mod Claims

@@ -7,13 +7,14 @@ use lib.Dec.{ltb, eqb}
 use lib.ListN.{length}
 use Rattle.lists.specs.Pick.{pick}
 use Rattle.table.specs.Limits.{limits}
-use Rattle.table.specs.Codes.{after, unpacked, bytesOf}
+use Rattle.table.specs.Codes.{after, bytesOf}
 use Rattle.table.specs.Memory.{tableIn}
 use Rattle.table.specs.Meaning.{Table}
-use Rattle.table.specs.Load.{read, accepted, loadedBy, Slices, given, leftIn}
+use Rattle.table.specs.Slices.{Slices}
+use Rattle.table.specs.Load.{read, accepted, loadedBy, given, leftIn}
 use Rattle.table.specs.declared.states.Code.{Code}
 use Rattle.table.specs.declared.valid.Record.{Record}
-use Rattle.audit.specs.Audit.{Finding, Answer, completeCodes, plainList, numberOf, auditTested}
+use Rattle.audit.specs.Audit.{Finding, Answer, completeCodes, plainList, numberOf, auditTested, entryIn}
 use Rattle.audit.specs.Demand.{beginning}
 use Rattle.audit.specs.declared.Ending.{Ending}
 use Rattle.audit.specs.declared.Ending.the-variants.{Looked}
@@ -26,9 +27,9 @@ unfoldable pub findingLines : List Finding → List ℕ
 findingLines [] = []
 findingLines (f ∷ l) = findingLine (f .code) (f .cause) ++ findingLines l
 
--- the line of an entry that is a number of 64 bits: the code's bits, 2^32 * its length, 2^40 * its cause
+-- the line of an entry that is a number of 64 bits
 abbrev pub entryLine : ℕ → List ℕ
-entryLine e = findingLine (unpacked (e / 4294967296 % 256) (e % 4294967296)) (e / 1099511627776)
+entryLine e = findingLine (bytesOf (entryIn e .code)) (entryIn e .cause)
 
 unfoldable pub entryLines : List ℕ → List ℕ
 entryLines [] = []
@@ -39,8 +40,8 @@ unfoldable pub pageSpace : ℕ → ℕ
 pageSpace room = let n = room / 11 in pick (ltb n 1024) n 1024
 
 -- a page: fallback off, as many codes as the widest number allows
-abbrev pub pageIn : Record → List ℕ → List ℕ → List ℕ → List ℕ → Code → ℕ → Answer
-pageIn rec states codes infos order pos room = auditTested limits rec states codes infos order false pos 18446744073709551615 (pageSpace room)
+abbrev pub pageIn : Record → Slices → Code → ℕ → Answer
+pageIn rec m pos room = auditTested limits rec m false pos 18446744073709551615 (pageSpace room)
 
 -- how far the list has come after a page; sums are of 64 bits
 abbrev pub listingAfter : Listing → Answer → Listing
@@ -65,8 +66,8 @@ listedOf done a =
     }
 
 -- how many complete codes come after a position: what a list still has to look at
-unfoldable pub codesLeft : Record → List ℕ → List ℕ → List ℕ → Code → ℕ
-codesLeft rec states codes infos pos = length (after (bytesOf pos) (completeCodes (tableIn rec states codes infos)))
+unfoldable pub codesLeft : Record → Slices → Code → ℕ
+codesLeft rec m pos = length (after (bytesOf pos) (completeCodes (tableIn rec m)))
 
 -- a call of `list_codes`: what it hands back, and the text that it puts
 pub record Shown : Type 0 where
@@ -77,7 +78,7 @@ pub record Shown : Type 0 where
 unfoldable pub pagesFrom : Record → Slices → Listing → List ℕ → List Shown
 pagesFrom rec m done [] = []
 pagesFrom rec m done (room ∷ rooms) =
-    let a = pageIn rec (m .states) (m .codes) (m .infos) (m .order) (done .position) room in
+    let a = pageIn rec m (done .position) room in
     record { told = listedOf done a; text = findingLines (a .page .entries) } ∷ pagesFrom rec m (listingAfter done a) rooms
 
 -- their texts joined
@@ -103,6 +104,6 @@ pub record WholeList (t : Table) (pages : List Shown) : Type 0 where
 -- THE WHOLE LIST: of every accepted text, whatever the lent slices held, and any rooms, once the last call says that there is no more
 abbrev pub ListedWhole : Type 0
 ListedWhole =
-    (text : List ℕ) (old : Slices) (t : Table) → given text old ≡ read (accepted t) → (rooms : List ℕ)
-    → let pages = pagesFrom (loadedBy (given text old) .table) (leftIn (given text old) old) (nothingYet .reached) rooms in
+    (text : List ℕ) (old : Slices) (t : Table) → given limits text old ≡ read (accepted t) → (rooms : List ℕ)
+    → let pages = pagesFrom (loadedBy (given limits text old) .table) (leftIn limits (given limits text old) old) (nothingYet .reached) rooms in
     lastTold nothingYet pages .more ≡ false → WholeList t pages

@@ -1,6 +1,6 @@
 -- What the program writes of the table and of frames: a line for each frame, whatever pieces the input comes in.
 use Prim.Native.Nat.{ℕ, zero, suc, _+_, _-_, _≤_}
-use mathlib.Core.Bool.{true}
+use mathlib.Core.Bool.{false}
 use mathlib.Core.List.{List, [], _∷_, _++_}
 use mathlib.Core.Option.{Option, none, some}
 use lib.Dec.{leb, eqb}
@@ -8,13 +8,14 @@ use lib.ListN.{length, drop}
 use Rattle.lists.specs.Pick.{pick}
 use Rattle.lists.specs.Order.{All}
 use Rattle.table.specs.Limits.{limits}
+use Rattle.table.specs.Slices.{Slices}
 use Rattle.table.specs.Numbers.{numberOf}
 use Rattle.table.specs.declared.load.Answer.{Answer}
 use Rattle.table.specs.declared.load.Answer.the-variants.{Accepted, Refused}
 use Rattle.table.specs.declared.load.Loaded.{Loaded}
 use Rattle.table.specs.declared.valid.Record.{Record}
 use Rattle.convert.specs.Run.{Run, haltNumber}
-use Rattle.convert.specs.Step.{utf8}
+use Rattle.convert.specs.Step.{utf8, substituting}
 use Rattle.convert.specs.Convert.{toTested}
 use Rattle.frames.specs.Lines.{fixedLine, badFrame, okLine, refusedLine, answerLine, parsed}
 use Rattle.frames.specs.Stream.{Line, whole, tooLong, Step, ended, unended, stepOf, keptIn, partialOf, lastLine}
@@ -29,8 +30,8 @@ unfoldable pub tableLine : Loaded → List ℕ
 tableLine l = lineFor l (l .answer)
 
 -- A FRAME. Its conversion: substitute on, space for four bytes to each byte of the longest frame
-unfoldable pub convertIn : Record → List ℕ → List ℕ → List ℕ → List ℕ → List ℕ → Run
-convertIn rec states codes infos order s = toTested utf8 limits rec states codes infos order true s 16384
+unfoldable pub convertIn : Record → Slices → List ℕ → Run
+convertIn rec m s = toTested utf8 limits rec m (substituting false) s 16384
 
 -- the line of a frame, by its bytes: number, bytes read, output; or BAD FRAME
 abbrev pub frameLine : (List ℕ → Run) → Option (List ℕ) → List ℕ

@@ -8,6 +8,7 @@ ghost use mathlib.Core.Path.{_≡_};
 ghost use mathlib.Core.Bool.{true};
 ghost use Prim.Native.Nat.{_≤_, _<_};
 ghost use lib.ListN.{length, take};
+ghost use Rattle.table.specs.Slices.{slices};
 ghost use Rattle.frames.specs.Lines.{closingLine, putInto, putCount};
 ghost use Rattle.frames.specs.Pages.{findingLines, entryLines, pageSpace, pageIn, moreAfter, listedOf, codesLeft};
 
@@ -55,14 +56,9 @@ fn put_findings(entries: &[u64], out: &mut [u8]) -> usize
     let mut i = 0;
     let mut put = 0;
     while i < entries.len() {
-        let entry = entries[i];
-        let room = lines::put_finding(
-            (entry % 4294967296) as u32,
-            (entry / 4294967296 % 256) as u32,
-            (entry / 1099511627776) as u32,
-            out,
-            put,
-        );
+        let entry = audit::entry_in(entries[i]);
+        let code = entry.code;
+        let room = lines::put_finding(code.bits, code.len, entry.cause, out, put);
         match room {
             Room::Put(next) => {
                 put = next;
@@ -86,9 +82,12 @@ pub fn list_codes(
     done: Listing,
     out: &mut [u8],
 ) -> Listed
-    ensures { λ r. ⌜ (r ≡ listedOf done (pageIn rec (now (states .entry)) (now (codes .entry)) (now (infos .entry)) (now (order .entry)) (done .position) (length (now (out .entry)))))
-        × (now (out .exit) ≡ putInto (now (out .entry)) 0 (findingLines (pageIn rec (now (states .entry)) (now (codes .entry)) (now (infos .entry)) (now (order .entry)) (done .position) (length (now (out .entry))) .page .entries))) ⌝ }
-    ensures { λ r. ⌜ (r .more ≡ true → 11 ≤ length (now (out .entry)) → codesLeft rec (now (states .entry)) (now (codes .entry)) (now (infos .entry)) (r .reached .position) < codesLeft rec (now (states .entry)) (now (codes .entry)) (now (infos .entry)) (done .position)) ⌝ }
+    ensures { λ r. ⌜ (let m = slices (now (states .entry)) (now (codes .entry)) (now (infos .entry)) (now (order .entry)) in
+        let a = pageIn rec m (done .position) (length (now (out .entry))) in
+        (r ≡ listedOf done a)
+        × (now (out .exit) ≡ putInto (now (out .entry)) 0 (findingLines (a .page .entries)))) ⌝ }
+    ensures { λ r. ⌜ (let m = slices (now (states .entry)) (now (codes .entry)) (now (infos .entry)) (now (order .entry)) in
+        (r .more ≡ true → 11 ≤ length (now (out .entry)) → codesLeft rec m (r .reached .position) < codesLeft rec m (done .position))) ⌝ }
     ensures { λ r. ⌜ (r .put ≤ length (now (out .exit))) × (r .put ≡ length (take (r .put) (now (out .exit)))) ⌝ }
 {
     let mut entries = [0u64; 1024];

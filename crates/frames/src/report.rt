@@ -11,6 +11,7 @@ ghost use mathlib.Core.Path.{_≡_};
 ghost use mathlib.Core.Option.{some};
 ghost use Prim.Native.Nat.{_≤_, _<_};
 ghost use lib.ListN.{length, take, drop};
+ghost use Rattle.table.specs.Slices.{slices};
 ghost use Rattle.frames.specs.Lines.{parsed, roomAfter, putInto, putCount};
 ghost use Rattle.frames.specs.Stream.{heldIn, lastLine, partialOf};
 ghost use Rattle.frames.specs.Report.{tableLine, convertIn, frameLine, lineReport, linesReport, toldOf, progressOf};
@@ -21,6 +22,12 @@ pub struct Progress {
     pub held: Partial,
     pub put: usize,
 }
+
+// How frames are converted: fallback off, substitute on.
+const SETTINGS: convert::Settings = convert::Settings {
+    fallback: false,
+    substitute: true,
+};
 
 // Puts the line of a frame. `text` is working space.
 fn report_frame(
@@ -35,10 +42,12 @@ fn report_frame(
     at: usize,
 ) -> Room
     requires { ⌜ length (now text) ≡ 16384 ⌝ }
-    ensures { λ r. ⌜ (r ≡ roomAfter (now (out .entry)) at (frameLine (convertIn rec (now (states .entry)) (now (codes .entry)) (now (infos .entry)) (now (order .entry))) (some (now (frame .entry)))))
-        × (now (out .exit) ≡ putInto (now (out .entry)) at (frameLine (convertIn rec (now (states .entry)) (now (codes .entry)) (now (infos .entry)) (now (order .entry))) (some (now (frame .entry))))) ⌝ }
+    ensures { λ r. ⌜ (let m = slices (now (states .entry)) (now (codes .entry)) (now (infos .entry)) (now (order .entry)) in
+        let shown = frameLine (convertIn rec m) (some (now (frame .entry))) in
+        (r ≡ roomAfter (now (out .entry)) at shown)
+        × (now (out .exit) ≡ putInto (now (out .entry)) at shown)) ⌝ }
 {
-    let done = convert::to_utf8(rec, states, codes, infos, order, frame, text, true);
+    let done = convert::to_utf8(rec, states, codes, infos, order, frame, text, SETTINGS);
     let halt = done.halt;
     let written = done.written;
     lines::put_answer(
@@ -64,8 +73,10 @@ fn report_line(
     at: usize,
 ) -> Room
     requires { ⌜ (4096 ≤ length (now frame)) × (length (now text) ≡ 16384) ⌝ }
-    ensures { λ r. ⌜ (r ≡ roomAfter (now (out .entry)) at (frameLine (convertIn rec (now (states .entry)) (now (codes .entry)) (now (infos .entry)) (now (order .entry))) (parsed (now (line .entry)))))
-        × (now (out .exit) ≡ putInto (now (out .entry)) at (frameLine (convertIn rec (now (states .entry)) (now (codes .entry)) (now (infos .entry)) (now (order .entry))) (parsed (now (line .entry))))) ⌝ }
+    ensures { λ r. ⌜ (let m = slices (now (states .entry)) (now (codes .entry)) (now (infos .entry)) (now (order .entry)) in
+        let shown = frameLine (convertIn rec m) (parsed (now (line .entry))) in
+        (r ≡ roomAfter (now (out .entry)) at shown)
+        × (now (out .exit) ≡ putInto (now (out .entry)) at shown)) ⌝ }
 {
     match lines::parse_frame(line, frame) {
         Parsed::Frame(n) => report_frame(
@@ -98,8 +109,10 @@ fn report_held(
     at: usize,
 ) -> Room
     requires { ⌜ (4096 ≤ length (now frame)) × (length (now text) ≡ 16384) ⌝ }
-    ensures { λ r. ⌜ (r ≡ roomAfter (now (out .entry)) at (lineReport (convertIn rec (now (states .entry)) (now (codes .entry)) (now (infos .entry)) (now (order .entry))) (heldIn (now (line .entry)) held)))
-        × (now (out .exit) ≡ putInto (now (out .entry)) at (lineReport (convertIn rec (now (states .entry)) (now (codes .entry)) (now (infos .entry)) (now (order .entry))) (heldIn (now (line .entry)) held))) ⌝ }
+    ensures { λ r. ⌜ (let m = slices (now (states .entry)) (now (codes .entry)) (now (infos .entry)) (now (order .entry)) in
+        let shown = lineReport (convertIn rec m) (heldIn (now (line .entry)) held) in
+        (r ≡ roomAfter (now (out .entry)) at shown)
+        × (now (out .exit) ≡ putInto (now (out .entry)) at shown)) ⌝ }
 {
     if held.long {
         return lines::put_fixed(b"BAD FRAME", out, at);
@@ -162,9 +175,11 @@ fn take_frames(
     out: &mut [u8],
 ) -> Progress
     requires { ⌜ (4096 ≤ length (now frame)) × (length (now text) ≡ 16384) ⌝ }
-    ensures { λ r. ⌜ (r ≡ progressOf from (toldOf (lineReport (convertIn rec (now (states .entry)) (now (codes .entry)) (now (infos .entry)) (now (order .entry)))) (now (line .entry)) (heldIn (now (line .entry)) held) (drop from (now (chunk .entry))) (length (now (out .entry)))))
-        × (now (line .exit) ≡ toldOf (lineReport (convertIn rec (now (states .entry)) (now (codes .entry)) (now (infos .entry)) (now (order .entry)))) (now (line .entry)) (heldIn (now (line .entry)) held) (drop from (now (chunk .entry))) (length (now (out .entry))) .memory)
-        × (now (out .exit) ≡ putInto (now (out .entry)) 0 (toldOf (lineReport (convertIn rec (now (states .entry)) (now (codes .entry)) (now (infos .entry)) (now (order .entry)))) (now (line .entry)) (heldIn (now (line .entry)) held) (drop from (now (chunk .entry))) (length (now (out .entry))) .text)) ⌝ }
+    ensures { λ r. ⌜ (let m = slices (now (states .entry)) (now (codes .entry)) (now (infos .entry)) (now (order .entry)) in
+        let told = toldOf (lineReport (convertIn rec m)) (now (line .entry)) (heldIn (now (line .entry)) held) (drop from (now (chunk .entry))) (length (now (out .entry))) in
+        (r ≡ progressOf from told)
+        × (now (line .exit) ≡ told .memory)
+        × (now (out .exit) ≡ putInto (now (out .entry)) 0 (told .text))) ⌝ }
 {
     let mut kept = settle(line, held);
     let mut at = from;
@@ -217,9 +232,11 @@ pub fn report_frames(
     held: Partial,
     out: &mut [u8],
 ) -> Progress
-    ensures { λ r. ⌜ (r ≡ progressOf from (toldOf (lineReport (convertIn rec (now (states .entry)) (now (codes .entry)) (now (infos .entry)) (now (order .entry)))) (now (line .entry)) (heldIn (now (line .entry)) held) (drop from (now (chunk .entry))) (length (now (out .entry)))))
-        × (now (line .exit) ≡ toldOf (lineReport (convertIn rec (now (states .entry)) (now (codes .entry)) (now (infos .entry)) (now (order .entry)))) (now (line .entry)) (heldIn (now (line .entry)) held) (drop from (now (chunk .entry))) (length (now (out .entry))) .memory)
-        × (now (out .exit) ≡ putInto (now (out .entry)) 0 (toldOf (lineReport (convertIn rec (now (states .entry)) (now (codes .entry)) (now (infos .entry)) (now (order .entry)))) (now (line .entry)) (heldIn (now (line .entry)) held) (drop from (now (chunk .entry))) (length (now (out .entry))) .text)) ⌝ }
+    ensures { λ r. ⌜ (let m = slices (now (states .entry)) (now (codes .entry)) (now (infos .entry)) (now (order .entry)) in
+        let told = toldOf (lineReport (convertIn rec m)) (now (line .entry)) (heldIn (now (line .entry)) held) (drop from (now (chunk .entry))) (length (now (out .entry))) in
+        (r ≡ progressOf from told)
+        × (now (line .exit) ≡ told .memory)
+        × (now (out .exit) ≡ putInto (now (out .entry)) 0 (told .text))) ⌝ }
     ensures { λ r. ⌜ (from < length (now (chunk .entry)) → 32777 ≤ length (now (out .entry)) → from < r .at) × (from ≤ length (now (chunk .entry)) → r .at ≤ length (now (chunk .entry))) ⌝ }
     ensures { λ r. ⌜ (r .put ≤ length (now (out .exit))) × (r .put ≡ length (take (r .put) (now (out .exit)))) ⌝ }
 {
@@ -252,8 +269,10 @@ pub fn report_last(
     held: Partial,
     out: &mut [u8],
 ) -> usize
-    ensures { λ r. ⌜ (r ≡ putCount (now (out .entry)) (linesReport (lineReport (convertIn rec (now (states .entry)) (now (codes .entry)) (now (infos .entry)) (now (order .entry)))) (lastLine (heldIn (now (line .entry)) held))))
-        × (now (out .exit) ≡ putInto (now (out .entry)) 0 (linesReport (lineReport (convertIn rec (now (states .entry)) (now (codes .entry)) (now (infos .entry)) (now (order .entry)))) (lastLine (heldIn (now (line .entry)) held)))) ⌝ }
+    ensures { λ r. ⌜ (let m = slices (now (states .entry)) (now (codes .entry)) (now (infos .entry)) (now (order .entry)) in
+        let shown = linesReport (lineReport (convertIn rec m)) (lastLine (heldIn (now (line .entry)) held)) in
+        (r ≡ putCount (now (out .entry)) shown)
+        × (now (out .exit) ≡ putInto (now (out .entry)) 0 shown)) ⌝ }
     ensures { λ r. ⌜ (r ≤ length (now (out .exit))) × (r ≡ length (take r (now (out .exit)))) ⌝ }
 {
     let mut frame = [0u8; 4096];

@@ -5,7 +5,6 @@ pub mod Between
 pub mod Append
 pub mod Parts
 pub mod Choice
-pub mod Halving
 pub mod Sorting
 pub mod AllParts
 pub mod Chains
@@ -18,5 +17,6 @@ pub mod Copied
 pub mod Cursors
 pub mod AllPlaces
 pub mod PageLoop
-pub mod NotedPages
 pub mod PageEntries
+pub mod Numbered
+pub mod Calls

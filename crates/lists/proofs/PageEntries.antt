@@ -2,13 +2,12 @@
 use Prim.Native.Nat.{ℕ, suc, _+_, _≤_}
 use native.Mathlib.Omega.{arith}
 use mathlib.Core.Path.{_≡_, refl, sym, ap, _∙_, subst}
-use mathlib.Core.Bool.{Bool, true, not}
-use mathlib.Core.Logic.{_↔_}
+use mathlib.Core.Bool.{not}
 use mathlib.Core.Option.{Option, none, some}
 use mathlib.Core.List.{List, [], _∷_}
 use lib.ListN.{length, length-append}
 use Rattle.lists.specs.Order.{All}
-use Rattle.lists.specs.Paging.{Listing, Page, Lawful, put, left, upTo, notes, pageFrom, lastPosition, lastFinished}
+use Rattle.lists.specs.Paging.{Listing, Lawful, put, left, upTo, notes, pageFrom}
 use Rattle.lists.proofs.Order.{all-map}
 use Rattle.lists.proofs.Paging.{those-keep, those-both, done}
 
@@ -51,10 +50,3 @@ module _ {A E P : Type 0} (S : Listing A E P) (L : List A) (W : Lawful S L) wher
       let l : All (λ x. Q x) (left S p L) = all-map (λ x k. k .0) (left S p L) (those-keep (S .after p) Q L h) in
       let u : All (λ x. Q x) (upTo S q (left S p L)) = all-map (λ x k. k .0) (upTo S q (left S p L)) (those-keep (λ x. not (S .after q x)) Q (left S p L) l) in
       subst (All R) (sym (d .entries)) (notes-all S Q R f (d .looked) (subst (All Q) (d .between) u))
-
--- what a finished call tells of its position holds of the last position, where the last call is finished
-pub last-finished : {E P : Type 0} (Q : P → Type 0) (l : List (Page E P)) (p : P) (f : Bool) → (f ≡ true → Q p) → All (λ a. (a .finished ≡ true) ↔ Q (a .position)) l
-    → lastFinished f l ≡ true → Q (lastPosition p l)
-unfolding lastFinished lastPosition
-last-finished Q [] p f q h e = q e
-last-finished Q (a ∷ l) p f q h e = last-finished Q l (a .position) (a .finished) (h .0 .0) (h .1) e

@@ -1,15 +1,15 @@
--- The paging theorem: what any list of calls through a rising list gives together.
+-- One call through a rising list: the elements it looked at, those left, and its new position. Lists of calls: Calls.antt.
 use Prim.Native.Nat.{ℕ, zero, suc, _+_, _≤_, zero-le, suc-le-suc}
 use native.Mathlib.Omega.{arith}
 use mathlib.Core.Path.{_≡_, refl, sym, ap, _∙_, subst}
 use mathlib.Core.Bool.{Bool, true, false, not, false≢true}
 use mathlib.Core.Logic.{_⊎_, inl, inr, _↔_}
 use mathlib.Core.Option.{Option, none, some}
-use mathlib.Core.List.{List, [], _∷_, _++_, head?, append-nil, append-assoc, map, nil≢cons, cons≢nil, head-eq-of-cons-eq, tail-eq-of-cons-eq}
-use lib.ListN.{length, length-append}
+use mathlib.Core.List.{List, [], _∷_, _++_, head?, append-nil, append-assoc, nil≢cons, cons≢nil, head-eq-of-cons-eq, tail-eq-of-cons-eq}
+use lib.ListN.{length}
 use Rattle.lists.specs.Pick.{pick}
 use Rattle.lists.specs.Order.{All, In, Rising}
-use Rattle.lists.specs.Paging.{Listing, Page, toldBy, Call, those, put, isNone, stoppedAt, counted, left, upTo, notes, lookAt, look, pageFrom, run, joined, summed, lastPosition, lastFinished, EachFrom, Moves, Lawful, Paged}
+use Rattle.lists.specs.Paging.{Listing, Page, those, put, isNone, stoppedAt, counted, left, upTo, notes, lookAt, look, pageFrom, Reached, Place, Lawful}
 use Rattle.lists.proofs.Laws.{clash, not-yes}
 use Rattle.lists.proofs.Order.{all-map, all-of}
 
@@ -175,12 +175,9 @@ module _ {A E P : Type 0} (S : Listing A E P) (L : List A) (W : Lawful S L) wher
       go ih true t = inl (sym (head-eq-of-cons-eq (sym (those-yes (S .after p) d l t) ∙ e)))
       go ih false t = inr (ih (sym (those-no (S .after p) d l t) ∙ e))
 
-  -- an element's position, and a position of the list
-  abbrev pub Reached : P → Type 0
-  Reached p = (x : A) × In x L × (p ≡ S .at x)
-
-  abbrev pub Place : P → Type 0
-  Place p = (p ≡ S .start) ⊎ Reached p
+  -- every element comes after the start
+  pub none-first : upTo S (S .start) L ≡ []
+  none-first = those-none (λ a. not (S .after (S .start) a)) L (all-map (λ b q. not-true q) L (W .begins))
 
   -- what a call from p that handed back a did: the elements it looked at
   pub record Done (p : P) (a : Page E P) : Type 0 where
@@ -191,7 +188,8 @@ module _ {A E P : Type 0} (S : Listing A E P) (L : List A) (W : Lawful S L) wher
     pub count : a .count ≡ length looked
     pub ends : (a .finished ≡ true) ↔ (left S (a .position) L ≡ [])
     pub beyond : (b : A) → S .after (a .position) b ≡ true → S .after p b ≡ true
-    pub place : (a .position ≡ p) ⊎ Reached (a .position)
+    pub place : (a .position ≡ p) ⊎ Reached S L (a .position)
+    pub stays : a .count ≡ 0 → a .position ≡ p
 
   done-stopped : (p : P) (f : Bool) → (f ≡ true) ↔ (left S p L ≡ []) → Done p (stoppedAt p f)
   unfolding notes
@@ -205,6 +203,7 @@ module _ {A E P : Type 0} (S : Listing A E P) (L : List A) (W : Lawful S L) wher
         ends = h;
         beyond = λ b e. e;
         place = inl refl;
+        stays = λ e. refl;
       }
 
   done-counted : (p : P) (c : A) (r : List A) (w : Option E) (a : Page E P) → left S p L ≡ c ∷ r → S .note c ≡ w → Done (S .at c) a → Done p (counted w a)
@@ -224,9 +223,10 @@ module _ {A E P : Type 0} (S : Listing A E P) (L : List A) (W : Lawful S L) wher
         ends = d .ends;
         beyond = λ b u. W .trans p c b first (d .beyond b u);
         place = inr (reached (d .place));
+        stays = λ z. absurd (omega arith);
       }
     where
-      reached : (a .position ≡ S .at c) ⊎ Reached (a .position) → Reached (a .position)
+      reached : (a .position ≡ S .at c) ⊎ Reached S L (a .position) → Reached S L (a .position)
       reached (inl q) = (c, left-in p c L r e, q)
       reached (inr q) = q
 
@@ -248,107 +248,9 @@ module _ {A E P : Type 0} (S : Listing A E P) (L : List A) (W : Lawful S L) wher
   pub position-kept : (K : P → Type 0) → ((x : A) → In x L → K (S .at x)) → (n space : ℕ) (p : P) → K p → K (pageFrom S n space p .position)
   position-kept K f n space p k = go (done n space p .place)
     where
-      go : (pageFrom S n space p .position ≡ p) ⊎ Reached (pageFrom S n space p .position) → K (pageFrom S n space p .position)
+      go : (pageFrom S n space p .position ≡ p) ⊎ Reached S L (pageFrom S n space p .position) → K (pageFrom S n space p .position)
       go (inl e) = subst K (sym e) k
       go (inr r) = subst K (sym (r .2)) (f (r .0) (r .1))
 
-  pub place-kept : (n space : ℕ) (p : P) → Place p → Place (pageFrom S n space p .position)
-  place-kept = position-kept Place (λ x i. inr (x, i, refl))
-
-  -- what a list of calls from p did
-  record Ran (p : P) (cs : List Call) : Type 0 where
-    looked : List A
-    cut : upTo S (lastPosition p (run S p cs)) L ≡ upTo S p L ++ looked
-    entries : joined (run S p cs) ≡ notes S looked
-    counts : summed (run S p cs) ≡ length looked
-    each : EachFrom (λ p a. a .count ≡ length (upTo S (a .position) (left S p L))) p (run S p cs)
-    finished : All (λ a. (a .finished ≡ true) ↔ (left S (a .position) L ≡ [])) (run S p cs)
-    moves : Moves cs (run S p cs)
-    positions : Place p → All (λ a. Place (a .position)) (run S p cs)
-    lastly : (f : Bool) → (f ≡ true → left S p L ≡ []) → lastFinished f (run S p cs) ≡ true → left S (lastPosition p (run S p cs)) L ≡ []
-
-  ran : (cs : List Call) (p : P) → Ran p cs
-  unfolding run joined summed lastPosition lastFinished notes
-  ran [] p =
-      record {
-        looked = [];
-        cut = sym (append-nil (upTo S p L));
-        entries = refl;
-        counts = refl;
-        each = tt;
-        finished = tt;
-        moves = tt;
-        positions = λ w. tt;
-        lastly = λ f h e. h e;
-      }
-  ran (c ∷ cs) p = join (done (c .allowance) (c .space) p) (ran cs (pageFrom S (c .allowance) (c .space) p .position))
-    where
-      join : Done p (pageFrom S (c .allowance) (c .space) p) → Ran (pageFrom S (c .allowance) (c .space) p .position) cs → Ran p (c ∷ cs)
-      join d r = record {
-        looked = d .looked ++ r .looked;
-        cut = r .cut ∙ ap (λ (l : List A). l ++ r .looked) (d .cut) ∙ append-assoc (upTo S p L) (d .looked) (r .looked);
-        entries = (λ i. d .entries i ++ r .entries i) ∙ sym (notes-append S (d .looked) (r .looked));
-        counts = (λ i. d .count i + r .counts i) ∙ sym (length-append (d .looked) (r .looked));
-        each = (d .count ∙ ap length (sym (d .between)), r .each);
-        finished = (d .ends, r .finished);
-        moves = (moves-on S (c .allowance) (c .space) p, r .moves);
-        positions = λ w. let v = place-kept (c .allowance) (c .space) p w in (v, r .positions v);
-        lastly = λ f h e. r .lastly (pageFrom S (c .allowance) (c .space) p .finished) (d .ends .0) e;
-      }
-
-  -- THE PAGING THEOREM
-  pub paged : (cs : List Call) → Paged S L cs
-  paged cs =
-      let r = ran cs (S .start) in
-      let last : P = lastPosition (S .start) (run S (S .start) cs) in
-      let none-first : upTo S (S .start) L ≡ [] = those-none (λ a. not (S .after (S .start) a)) L (all-map (λ b q. not-true q) L (W .begins)) in
-      let cut : upTo S last L ≡ r .looked = r .cut ∙ ap (λ (l : List A). l ++ r .looked) none-first in
-      let entries : joined (run S (S .start) cs) ≡ notes S (upTo S last L) = r .entries ∙ ap (notes S) (sym cut) in
-      record {
-        entries = entries;
-        counts = r .counts ∙ ap length (sym cut);
-        each = r .each;
-        finished = r .finished;
-        whole = λ e. entries ∙ ap (notes S) (those-rest (S .after last) L (r .lastly false (λ f. absurd (false≢true f)) e));
-        moves = r .moves;
-        positions = r .positions (inl refl);
-      }
-
--- pages with their positions told in another way
-module _ {E P Q : Type 0} (g : P → Q) where
-  pub joined-told : (l : List (Page E P)) → joined (map (toldBy g) l) ≡ joined l
-  unfolding joined
-  joined-told [] = refl
-  joined-told (a ∷ l) = ap (λ (m : List E). a .entries ++ m) (joined-told l)
-
-  pub summed-told : (l : List (Page E P)) → summed (map (toldBy g) l) ≡ summed l
-  unfolding summed
-  summed-told [] = refl
-  summed-told (a ∷ l) = ap (λ (m : ℕ). a .count + m) (summed-told l)
-
-  pub last-told : (p : P) (l : List (Page E P)) → lastPosition (g p) (map (toldBy g) l) ≡ g (lastPosition p l)
-  unfolding lastPosition
-  last-told p [] = refl
-  last-told p (a ∷ l) = last-told (a .position) l
-
-  pub finished-told : (f : Bool) (l : List (Page E P)) → lastFinished f (map (toldBy g) l) ≡ lastFinished f l
-  unfolding lastFinished
-  finished-told f [] = refl
-  finished-told f (a ∷ l) = finished-told (a .finished) l
-
-  pub moves-told : (cs : List Call) (l : List (Page E P)) → Moves cs l → Moves cs (map (toldBy g) l)
-  moves-told [] l h = tt
-  moves-told (c ∷ cs) [] h = tt
-  moves-told (c ∷ cs) (a ∷ l) h = (h .0, moves-told cs l (h .1))
-
-  -- what holds of each call, where its positions are of a kind
-  pub each-told : (K : P → Type 0) (R : P → Page E P → Type 0) (T : Q → Page E Q → Type 0) → ((p : P) (a : Page E P) → K p → K (a .position) → R p a → T (g p) (toldBy g a))
-      → (p : P) (l : List (Page E P)) → K p → All (λ a. K (a .position)) l → EachFrom R p l → EachFrom T (g p) (map (toldBy g) l)
-  each-told K R T f p [] k ks h = tt
-  each-told K R T f p (a ∷ l) k ks h = (f p a k (ks .0) (h .0), each-told K R T f (a .position) l (ks .0) (ks .1) (h .1))
-
--- the last position is of a kind that all are
-pub last-of : {E P : Type 0} (K : P → Type 0) (p : P) (l : List (Page E P)) → K p → All (λ a. K (a .position)) l → K (lastPosition p l)
-unfolding lastPosition
-last-of K p [] k ks = k
-last-of K p (a ∷ l) k ks = last-of K (a .position) l (ks .0) (ks .1)
+  pub place-kept : (n space : ℕ) (p : P) → Place S L p → Place S L (pageFrom S n space p .position)
+  place-kept = position-kept (Place S L) (λ x i. inr (x, i, refl))

@@ -1,6 +1,6 @@
--- Parts of a list by their first element, and a list of one value.
-use mathlib.Core.Path.{_≡_, refl}
-use mathlib.Core.List.{List, _∷_}
+-- Parts of a list by their first element, a list of one value, and a function put over a part.
+use mathlib.Core.Path.{_≡_, refl, ap}
+use mathlib.Core.List.{List, [], _∷_, map}
 use Prim.Native.Nat.{ℕ, zero, suc, _+_, _-_, _<_}
 use native.Mathlib.Omega.{arith}
 use lib.ListN.{length, getD, take, drop, replicate}
@@ -19,3 +19,19 @@ pub same-at : {A : Type 0} (n i : ℕ) (d : A) → getD (replicate n d) i d ≡ 
 same-at zero i d = refl
 same-at (suc n) zero d = refl
 same-at (suc n) (suc i) d = same-at n i d
+
+-- a function over a part, and over one value
+module _ {A B : Type 0} (f : A → B) where
+  pub map-take : (n : ℕ) (l : List A) → map f (take n l) ≡ take n (map f l)
+  map-take zero l = refl
+  map-take (suc n) [] = refl
+  map-take (suc n) (x ∷ l) = ap (λ (m : List B). f x ∷ m) (map-take n l)
+
+  pub map-drop : (n : ℕ) (l : List A) → map f (drop n l) ≡ drop n (map f l)
+  map-drop zero l = refl
+  map-drop (suc n) [] = refl
+  map-drop (suc n) (x ∷ l) = map-drop n l
+
+  pub map-replicate : (n : ℕ) (x : A) → map f (replicate n x) ≡ replicate n (f x)
+  map-replicate zero x = refl
+  map-replicate (suc n) x = ap (λ (m : List B). f x ∷ m) (map-replicate n x)

@@ -4,3 +4,4 @@ pub mod Order
 pub mod Place
 pub mod Between
 pub mod Paging
+pub mod Calls

@@ -1,12 +1,11 @@
--- Paging through a rising list: calls with an allowance and a space, each from the position that the one before handed back.
+-- Paging through a rising list: one call, with an allowance and a space, from a position. Lists of calls: Calls.antt.
 -- A is what is looked at, E an entry, P a position.
-use Prim.Native.Nat.{ℕ, zero, suc, _+_, _≤_}
+use Prim.Native.Nat.{ℕ, zero, suc}
 use mathlib.Core.Path.{_≡_}
 use mathlib.Core.Bool.{Bool, true, false, not}
-use mathlib.Core.Logic.{_↔_, _⊎_}
+use mathlib.Core.Logic.{_⊎_}
 use mathlib.Core.Option.{Option, none, some}
-use mathlib.Core.List.{List, [], _∷_, _++_, map, head?}
-use lib.ListN.{length}
+use mathlib.Core.List.{List, [], _∷_, map, head?}
 use Rattle.lists.specs.Pick.{pick}
 use Rattle.lists.specs.Order.{All, In, Rising}
 
@@ -33,11 +32,6 @@ toldBy g a = record { entries = a .entries; count = a .count; position = g (a .p
 -- the same page with its entries told in another way
 abbrev pub notedBy : {E F P : Type 0} → (E → F) → Page E P → Page F P
 notedBy f a = record { entries = map f (a .entries); count = a .count; position = a .position; finished = a .finished }
-
--- how many elements a call may look at, and how many entries it has space for
-pub record Call : Type 0 where
-  pub allowance : ℕ
-  pub space : ℕ
 
 -- those of a list for which f holds
 unfoldable pub those : {A : Type 0} → (A → Bool) → List A → List A
@@ -88,40 +82,12 @@ module _ {A E P : Type 0} (S : Listing A E P) where
   pageFrom zero space p = stoppedAt p (isNone (S .next p))
   pageFrom (suc n) space p = look p (S .next p) space (pageFrom n)
 
-  -- a list of calls, the first from a position
-  unfoldable pub run : P → List Call → List (Page E P)
-  run p [] = []
-  run p (c ∷ cs) = let a = pageFrom (c .allowance) (c .space) p in a ∷ run (a .position) cs
+  -- a position of a list: the start, or the position of one of its elements
+  abbrev pub Reached : List A → P → Type 0
+  Reached L p = (x : A) × In x L × (p ≡ S .at x)
 
-module _ {E P : Type 0} where
-  unfoldable pub joined : List (Page E P) → List E
-  joined [] = []
-  joined (a ∷ rest) = a .entries ++ joined rest
-
-  unfoldable pub summed : List (Page E P) → ℕ
-  summed [] = 0
-  summed (a ∷ rest) = a .count + summed rest
-
-  -- the position that the last call handed back; the first one's own where there is no call
-  unfoldable pub lastPosition : P → List (Page E P) → P
-  lastPosition p [] = p
-  lastPosition p (a ∷ rest) = lastPosition (a .position) rest
-
-  -- whether the last call is finished
-  unfoldable pub lastFinished : Bool → List (Page E P) → Bool
-  lastFinished f [] = f
-  lastFinished f (a ∷ rest) = lastFinished (a .finished) rest
-
-  -- something holds of each call's page and of the position that it was made at
-  abbrev pub EachFrom : (P → Page E P → Type 0) → P → List (Page E P) → Type 0
-  EachFrom Q p [] = Unit {0}
-  EachFrom Q p (a ∷ rest) = Q p a × EachFrom Q (a .position) rest
-
-  -- each call with an allowance and a space of at least one moves on or is finished
-  abbrev pub Moves : List Call → List (Page E P) → Type 0
-  Moves [] rest = Unit {0}
-  Moves (c ∷ cs) [] = Unit {0}
-  Moves (c ∷ cs) (a ∷ rest) = (1 ≤ c .allowance → 1 ≤ c .space → (1 ≤ a .count) ⊎ (a .finished ≡ true)) × Moves cs rest
+  abbrev pub Place : List A → P → Type 0
+  Place L p = (p ≡ S .start) ⊎ Reached L p
 
 -- the elements of a listing: they rise, and `next` finds the first of them after a position
 pub record Lawful {A E P : Type 0} (S : Listing A E P) (L : List A) : Type 0 where
@@ -130,13 +96,3 @@ pub record Lawful {A E P : Type 0} (S : Listing A E P) (L : List A) : Type 0 whe
   pub trans : (p : P) (a b : A) → S .after p a ≡ true → S .after (S .at a) b ≡ true → S .after p b ≡ true
   pub next-is : (p : P) → S .next p ≡ head? (left S p L)
   pub begins : All (λ a. S .after (S .start) a ≡ true) L
-
--- what any list of calls gives together, the first from the start
-pub record Paged {A E P : Type 0} (S : Listing A E P) (L : List A) (cs : List Call) : Type 0 where
-  pub entries : joined (run S (S .start) cs) ≡ notes S (upTo S (lastPosition (S .start) (run S (S .start) cs)) L)
-  pub counts : summed (run S (S .start) cs) ≡ length (upTo S (lastPosition (S .start) (run S (S .start) cs)) L)
-  pub each : EachFrom (λ p a. a .count ≡ length (upTo S (a .position) (left S p L))) (S .start) (run S (S .start) cs)
-  pub finished : All (λ a. (a .finished ≡ true) ↔ (left S (a .position) L ≡ [])) (run S (S .start) cs)
-  pub whole : lastFinished false (run S (S .start) cs) ≡ true → joined (run S (S .start) cs) ≡ notes S L
-  pub moves : Moves cs (run S (S .start) cs)
-  pub positions : All (λ a. (a .position ≡ S .start) ⊎ ((x : A) × In x L × (a .position ≡ S .at x))) (run S (S .start) cs)

@@ -10,11 +10,13 @@ use Rattle.table.specs.Rules.{Keeps}
 use Rattle.table.specs.Memory.{Proper}
 use Rattle.table.specs.Text.{linesOf}
 use Rattle.table.specs.Numbers.{lowest, inForm}
-use Rattle.table.specs.Load.{Reading, Step, went, stop, Judge, stepOf, tableOf, accepted, refused, outcomeAt, loadGo, emptyHead, start, loadOf, readOf}
+use Rattle.lists.proofs.Laws.{clash}
+use Rattle.table.specs.Codes.{AllByte}
+use Rattle.table.specs.Keys.{noKeys}
+use Rattle.table.specs.Load.{Reading, Step, went, stop, Judge, stepOf, tableOf, accepted, refused, outcomeAt, loadGo, start, loadOf, readOf}
 use Rattle.table.specs.declared.load.Refusal.{Refusal}
 use Rattle.table.specs.declared.load.Phase.{Phase}
 use Rattle.table.specs.declared.load.Phase.the-variants.{Header, Mappings, Ended}
-use Rattle.table.proofs.Packing.{unpacked-bytes}
 use Rattle.table.proofs.Judged.{Fits, Sound, HeldAt, Holding, step-held}
 use Rattle.table.proofs.InGrammar.{KeptAt, Keeping, step-in-grammar, step-kept}
 
@@ -47,9 +49,10 @@ accepted-go lim t (l ∷ ls) k r h e = go (stepOf lowest lim r l) refl (accepted
     go (stop x) p ih q = absurd (refused-accepted x (k + 1) t (sym (stop-outcome lowest lim (k + 1) ls x) ∙ q))
     go (went s) p ih q = ih s (step-held lim r l s h p) q
 
-start-fits : (lim : Limits) → Fits lim emptyHead []
+start-fits : (lim : Limits) → Fits lim noKeys []
+unfolding AllByte
 start-fits lim =
-    record { counted = refl; room = omega arith; most = omega arith; full = tt; entries = tt; bytes = unpacked-bytes 0 0 (omega arith); byte = omega arith }
+    record { least = λ e. absurd (clash e refl); room = omega arith; most = omega arith; full = tt; bytes = tt; byte = omega arith }
 
 accepted-sound : (lim : Limits) (text : List ℕ) (t : Table) → loadOf lim text ≡ accepted t → Sound lim t
 unfolding loadOf
@@ -59,7 +62,7 @@ accepted-sound lim text t e = accepted-go lim t (linesOf text) 0 start (start-fi
 pub accepted-keeps-rules : (lim : Limits) (text : List ℕ) (t : Table) → 1 ≤ lim .rows → loadOf lim text ≡ accepted t → Keeps lim t
 accepted-keeps-rules lim text t one e = accepted-sound lim text t e .1 one
 
--- its rows are full, their entries known, its bytes bytes and its indicators digits
+-- its rows are full, its bytes bytes and its indicators digits
 pub accepted-proper : (lim : Limits) (text : List ℕ) (t : Table) → loadOf lim text ≡ accepted t → Proper t
 accepted-proper lim text t e = accepted-sound lim text t e .0
 

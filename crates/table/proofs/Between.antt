@@ -10,9 +10,10 @@ use Rattle.lists.proofs.Laws.{clash, not-yes}
 use Rattle.lists.proofs.Order.{all-map}
 use Rattle.table.specs.States.{Rows}
 use Rattle.table.specs.Codes.{allCodes, before, keep, after, upTo, countBetween, codeOf, bytesOf, firstCode, nextOf}
+use Rattle.table.specs.Entry.{padded}
 use Rattle.table.specs.declared.states.Code.{Code}
 use Rattle.table.specs.declared.codes.Next.the-variants.{Found, Nothing}
-use Rattle.table.proofs.Packing.{unpack}
+use Rattle.table.proofs.Packing.{unpack, packed-padded}
 use Rattle.table.proofs.CodeOrder.{before-irrefl, before-trans, before-asym, not-before, after-all, upto-none, after-keeps}
 use Rattle.table.proofs.Cuts.{NoEndsZero}
 use Rattle.table.proofs.CodeList.{rising-codes, Bytes, codes-bytes, CompleteCode, codes-are-codes}
@@ -158,6 +159,11 @@ module _ (step : Rows) (row : ℕ) where
 
   pub next-packed : (p : List ℕ) (c : Code) → nextOf step row p ≡ Found c → c ≡ codeOf (bytesOf c)
   next-packed p c q = next-first p c q .0
+
+  pub next-padded : NoEndsZero step → (p : List ℕ) (c : Code) → nextOf step row p ≡ Found c → padded (c .len) (c .bits) ≡ true
+  next-padded nz p c q =
+      let k = next-complete nz p c q in
+      subst (λ (x : Code). padded (x .len) (x .bits) ≡ true) (sym (next-packed p c q)) (packed-padded (bytesOf c) (k .bytes) (k .some) (k .short))
 
   pub next-none : (p : List ℕ) → nextOf step row p ≡ Nothing → after p (allCodes step row) ≡ []
   next-none p q = go (after p (allCodes step row)) q

@@ -6,13 +6,15 @@ use mathlib.Core.Logic.{inl, ⊎-elim}
 use mathlib.Core.List.{List, [], _∷_, _++_, map}
 use native.Mathlib.Nat.{suc-add, zero-add, add-zero, eq-or-lt-of-le}
 use native.Mathlib.Omega.{arith}
-use lib.ListN.{length, set, replicate}
+use lib.ListN.{length}
 use Rattle.lists.specs.Pick.{pick}
 use Rattle.lists.specs.Order.{All, Pairs, In, Rising}
 use Rattle.lists.proofs.Order.{all-map, all-in, all-of, map-all, map-pairs, map-in, unique}
 use Rattle.lists.proofs.Append.{all-append, pairs-append, in-left, in-right}
-use Rattle.table.specs.States.{Rows, stepAt, isEmpty, endKind, within}
+use Rattle.table.specs.States.{Rows, isEmpty, endKind, within}
+use Rattle.table.specs.Meaning.{flat, stepsOn, stepsOf}
 use Rattle.table.specs.Codes.{codesOn, scan, codesFrom, allCodes, before, after, packed, nextOf, AllByte}
+use Rattle.table.specs.TableK.{tableK}
 use Rattle.table.specs.declared.states.Step.{Step}
 use Rattle.table.specs.declared.states.Step.the-variants.{Illegal, Ends, Leads}
 use Rattle.table.specs.declared.codes.Next.the-variants.{Found, Nothing}
@@ -218,29 +220,26 @@ the-list step nz row l r f g =
     (λ s i. g s (all-in (CompleteCode step 4 row) s (allCodes step row) (codes-are-codes step nz 4 row) i))
 
 -- rows below the limit lead on to such rows alone
-abbrev pub LeadsInside : Rows → Type 0
-LeadsInside step = (r b n : ℕ) → r < 16 → b < 256 → step r b ≡ Leads n → n < 16
+abbrev pub LeadsInside : (rows : ℕ) → Rows → Type 0
+LeadsInside rows step = (r b n : ℕ) → r < rows → b < 256 → step r b ≡ Leads n → n < rows
 
 -- rows that agree below the limit have the same codes
-pub codes-agree : (step steps : Rows) → LeadsInside step → ((r b : ℕ) → r < 16 → b < 256 → step r b ≡ steps r b) → (f row : ℕ) → row < 16 → codesFrom step f row ≡ codesFrom steps f row
+pub codes-agree : (rows : ℕ) (step steps : Rows) → LeadsInside rows step → ((r b : ℕ) → r < rows → b < 256 → step r b ≡ steps r b) → (f row : ℕ) → row < rows → codesFrom step f row ≡ codesFrom steps f row
 unfolding codesFrom
-codes-agree step steps inside same zero row lt = refl
-codes-agree step steps inside same (suc f) row lt =
+codes-agree rows step steps inside same zero row lt = refl
+codes-agree rows step steps inside same (suc f) row lt =
     scan-same (codesFrom step f) (codesFrom steps f) step steps row
-    (λ b h. go b (codes-agree step steps inside same f) (step row b) (λ n q. inside row b n lt h q) ∙ ap (codesOn (codesFrom steps f) b) (same row b lt h)) 256 0 (omega arith)
+    (λ b h. go b (codes-agree rows step steps inside same f) (step row b) (λ n q. inside row b n lt h q) ∙ ap (codesOn (codesFrom steps f) b) (same row b lt h)) 256 0 (omega arith)
   where
-    go : (b : ℕ) → ((n : ℕ) → n < 16 → codesFrom step f n ≡ codesFrom steps f n) → (x : Step) → ((n : ℕ) → x ≡ Leads n → n < 16) → codesOn (codesFrom step f) b x ≡ codesOn (codesFrom steps f) b x
+    go : (b : ℕ) → ((n : ℕ) → n < rows → codesFrom step f n ≡ codesFrom steps f n) → (x : Step) → ((n : ℕ) → x ≡ Leads n → n < rows) → codesOn (codesFrom step f) b x ≡ codesOn (codesFrom steps f) b x
     go b ih Illegal i = refl
     go b ih (Ends e) i = refl
     go b ih (Leads n) i = ap (map (λ s. b ∷ s)) (ih n (i n refl))
 
 -- document 01's table K: row 0 has 2d, 30, 33, 3f and leads on from 81; row 1 has 7c, 7d and, unassigned, 80
-unfoldable kEntries : List ℕ
-kEntries = set (set (set (set (set (set (set (set (replicate 512 0) 0x2d 1) 0x30 1) 0x33 1) 0x3f 1) 0x81 17) 0x17c 1) 0x17d 1) 0x180 3
-
-k-codes : (length (allCodes (stepAt kEntries) 0) ≡ 7)
-    × (nextOf (stepAt kEntries) 0 [] ≡ Found (record { bits = 0x2d000000; len = 1 }))
-    × (nextOf (stepAt kEntries) 0 (0x81 ∷ 0x7d ∷ []) ≡ Found (record { bits = 0x81800000; len = 2 }))
-    × (nextOf (stepAt kEntries) 0 (0x81 ∷ 0x80 ∷ []) ≡ Nothing)
-unfolding kEntries codesFrom scan stepAt after before packed
+k-codes : (length (allCodes (stepsOf tableK) 0) ≡ 7)
+    × (nextOf (stepsOf tableK) 0 [] ≡ Found (record { bits = 0x2d000000; len = 1 }))
+    × (nextOf (stepsOf tableK) 0 (0x81 ∷ 0x7d ∷ []) ≡ Found (record { bits = 0x81800000; len = 2 }))
+    × (nextOf (stepsOf tableK) 0 (0x81 ∷ 0x80 ∷ []) ≡ Nothing)
+unfolding tableK flat stepsOn codesFrom scan after before packed
 k-codes = (refl, refl, refl, refl)

@@ -10,14 +10,15 @@ use lib.Seq.{getD-take, getD-drop}
 use borrow.Author.Tests.{ltb-true, ltb-false, leb-true, le-leb, lt-leb}
 use Rattle.lists.specs.Pick.{pick}
 use Rattle.lists.proofs.Laws.{clash, both-left, both-right}
-use Rattle.table.specs.Limits.{limits}
-use Rattle.table.specs.States.{Rows, stepOf, stepAt, endKind, leadsTo, within}
+use Rattle.table.specs.Limits.{Limits, needed}
+use Rattle.table.specs.Cells.{cellStep, cellIn, known}
+use Rattle.table.specs.States.{Rows, stepAt, endKind, leadsTo, within}
 use Rattle.table.specs.Codes.{AllByte}
 use Rattle.table.specs.Rules.{allOf, t2Row}
 use Rattle.table.specs.Valid.{zeros, stateOk, statesOk}
 use Rattle.table.specs.declared.states.Step.{Step}
 use Rattle.table.specs.declared.states.Step.the-variants.{Illegal, Ends, Leads}
-use Rattle.table.proofs.RowLaws.{step-leads, leads-ok, allOf-at, zeros-at, endOn, end-on, below-all}
+use Rattle.table.proofs.RowLaws.{small-ok, allOf-at, zeros-at, endOn, end-on, below-all}
 
 -- T3 at a byte that leads on
 pub within-row : (step : Rows) (d row b n : ℕ) → within step (suc d) row ≡ true → b < 256 → step row b ≡ Leads n → within step d n ≡ true
@@ -40,72 +41,69 @@ short-code step (suc d) row (b ∷ s) w a h =
     omega arith
 
 -- the test of the states, by their number
-pub states-few : (n : ℕ) (ts : List ℕ) → length ts < 4096 → statesOk limits n ts ≡ false
+pub states-few : (lim : Limits) (n : ℕ) (ts : List ℕ) → length ts < needed lim → statesOk lim n ts ≡ false
 unfolding statesOk
-states-few n ts h = rw (lt-leb 4096 (length ts) h)
+states-few lim n ts h = rw (lt-leb (needed lim) (length ts) h)
 
-pub states-test : (n : ℕ) (ts : List ℕ) → 4096 ≤ length ts → statesOk limits n ts ≡ pick (allOf (stateOk n) (take (n * 256) ts)) (zeros (take (4096 - n * 256) (drop (n * 256) ts))) false
+pub states-test : (lim : Limits) (n : ℕ) (ts : List ℕ) → needed lim ≤ length ts → statesOk lim n ts ≡ pick (allOf (stateOk n) (take (n * 256) ts)) (zeros (take (needed lim - n * 256) (drop (n * 256) ts))) false
 unfolding statesOk
-states-test n ts h = rw (le-leb 4096 (length ts) h)
+states-test lim n ts h = rw (le-leb (needed lim) (length ts) h)
 
 -- the parts of the test of the states
-pub record StatesKept (n : ℕ) (ts : List ℕ) : Type 0 where
-  pub long : 4096 ≤ length ts
+pub record StatesKept (lim : Limits) (n : ℕ) (ts : List ℕ) : Type 0 where
+  pub long : needed lim ≤ length ts
   pub entries : allOf (stateOk n) (take (n * 256) ts) ≡ true
-  pub behind : zeros (take (4096 - n * 256) (drop (n * 256) ts)) ≡ true
+  pub behind : zeros (take (needed lim - n * 256) (drop (n * 256) ts)) ≡ true
 
-pub states-kept : (n : ℕ) (ts : List ℕ) → statesOk limits n ts ≡ true → StatesKept n ts
+pub states-kept : (lim : Limits) (n : ℕ) (ts : List ℕ) → statesOk lim n ts ≡ true → StatesKept lim n ts
 unfolding statesOk
-states-kept n ts h =
+states-kept lim n ts h =
     let a = allOf (stateOk n) (take (n * 256) ts) in
-    let z = zeros (take (4096 - n * 256) (drop (n * 256) ts)) in
-    let r = both-right (leb 4096 (length ts)) (pick a z false) h in
-    record { long = leb-true 4096 (length ts) (both-left (leb 4096 (length ts)) (pick a z false) h); entries = both-left a z r; behind = both-right a z r }
+    let z = zeros (take (needed lim - n * 256) (drop (n * 256) ts)) in
+    let r = both-right (leb (needed lim) (length ts)) (pick a z false) h in
+    record { long = leb-true (needed lim) (length ts) (both-left (leb (needed lim) (length ts)) (pick a z false) h); entries = both-left a z r; behind = both-right a z r }
 
 -- entries behind the last row are zeros
-pub zero-behind : (n : ℕ) (ts : List ℕ) → StatesKept n ts → (j : ℕ) → n * 256 ≤ j → j < 4096 → getD ts j 0 ≡ 0
-zero-behind n ts k j h lt =
+pub zero-behind : (lim : Limits) (n : ℕ) (ts : List ℕ) → StatesKept lim n ts → (j : ℕ) → n * 256 ≤ j → j < needed lim → getD ts j 0 ≡ 0
+zero-behind lim n ts k j h lt =
     let e : n * 256 + (j - n * 256) ≡ j = omega arith in
     ap (λ (i : ℕ). getD ts i 0) (sym e)
     ∙ sym (getD-drop (n * 256) ts (j - n * 256) 0)
-    ∙ sym (getD-take (4096 - n * 256) (drop (n * 256) ts) (j - n * 256) 0 (omega arith))
-    ∙ zeros-at (take (4096 - n * 256) (drop (n * 256) ts)) (j - n * 256) (k .behind)
+    ∙ sym (getD-take (needed lim - n * 256) (drop (n * 256) ts) (j - n * 256) 0 (omega arith))
+    ∙ zeros-at (take (needed lim - n * 256) (drop (n * 256) ts)) (j - n * 256) (k .behind)
 
 -- every needed entry is of the form and keeps T2
-pub entry-kept : (n : ℕ) (ts : List ℕ) → StatesKept n ts → (j : ℕ) → j < 4096 → stateOk n (getD ts j 0) ≡ true
-entry-kept n ts k j lt = go (ltb j (n * 256)) refl
+pub entry-kept : (lim : Limits) (n : ℕ) (ts : List ℕ) → StatesKept lim n ts → (j : ℕ) → j < needed lim → stateOk n (getD ts j 0) ≡ true
+entry-kept lim n ts k j lt = go (ltb j (n * 256)) refl
   where
     go : (t : Bool) → ltb j (n * 256) ≡ t → stateOk n (getD ts j 0) ≡ true
     go true u =
         let h = ltb-true j (n * 256) u in
         let l = k .long in
         rw (getD-take (n * 256) ts j 0 h) at (allOf-at (stateOk n) (take (n * 256) ts) j 0 (k .entries) (rw (length-take (n * 256) ts) (omega arith)))
-    go false u = rw (zero-behind n ts k j (ltb-false j (n * 256) u) lt)
+    go false u = rw (zero-behind lim n ts k j (ltb-false j (n * 256) u) lt) (small-ok n 0 (omega arith))
 
 -- what lies past the needed entries does not matter to a row and a byte
-pub step-needed : (ts : List ℕ) (r b : ℕ) → r < 16 → b < 256 → stepAt (take 4096 ts) r b ≡ stepAt ts r b
+pub step-needed : (lim : Limits) (ts : List ℕ) (r b : ℕ) → r < lim .rows → b < 256 → stepAt (take (needed lim) ts) r b ≡ stepAt ts r b
 unfolding stepAt
-step-needed ts r b hr hb = ap stepOf (getD-take 4096 ts (r * 256 + b) 0 (omega arith))
+step-needed lim ts r b hr hb = ap (λ (e : ℕ). cellStep (cellIn e)) (getD-take (needed lim) ts (r * 256 + b) 0 (omega arith))
 
-pub t2-kept : (n : ℕ) (ts : List ℕ) → StatesKept n ts → (r b m : ℕ) → r < 16 → b < 256 → stepAt ts r b ≡ Leads m → (1 ≤ m) × (m < n)
+pub t2-kept : (lim : Limits) (n : ℕ) (ts : List ℕ) → StatesKept lim n ts → (r b m : ℕ) → r < lim .rows → b < 256 → stepAt ts r b ≡ Leads m → (1 ≤ m) × (m < n)
 unfolding stepAt
-t2-kept n ts k r b m hr hb e =
+t2-kept lim n ts k r b m hr hb e =
     let x : ℕ = getD ts (r * 256 + b) 0 in
-    let q = step-leads x m e in
-    let o : t2Row n (x - 16) ≡ true = sym (leads-ok n x (q .0)) ∙ entry-kept n ts k (r * 256 + b) (omega arith) in
-    let lo = leb-true 1 (x - 16) (both-left (leb 1 (x - 16)) (ltb (x - 16) n) o) in
-    let hi = ltb-true (x - 16) n (both-right (leb 1 (x - 16)) (ltb (x - 16) n) o) in
-    (omega (arith, q .1), omega (arith, q .1))
+    let o : t2Row n m ≡ true = sym (ap (leadsTo (t2Row n)) e) ∙ both-right (known x) _ (entry-kept lim n ts k (r * 256 + b) (omega arith)) in
+    (leb-true 1 m (both-left (leb 1 m) (ltb m n) o), ltb-true m n (both-right (leb 1 m) (ltb m n) o))
 
 -- two ways to know the rows that say the same of the rows there can be
-pub record Agree (a c : Rows) : Type 0 where
-  pub same : (r b : ℕ) → r < 16 → b < 256 → a r b ≡ c r b
-  pub stay : (r b m : ℕ) → r < 16 → b < 256 → a r b ≡ Leads m → m < 16
+pub record Agree (rows : ℕ) (a c : Rows) : Type 0 where
+  pub same : (r b : ℕ) → r < rows → b < 256 → a r b ≡ c r b
+  pub stay : (r b m : ℕ) → r < rows → b < 256 → a r b ≡ Leads m → m < rows
 
 -- the states, and the needed ones of them
-pub needed-agree : (n : ℕ) (ts : List ℕ) → n ≤ 16 → statesOk limits n ts ≡ true → Agree (stepAt ts) (stepAt (take 4096 ts))
-needed-agree n ts few h =
+pub needed-agree : (lim : Limits) (n : ℕ) (ts : List ℕ) → n ≤ lim .rows → statesOk lim n ts ≡ true → Agree (lim .rows) (stepAt ts) (stepAt (take (needed lim) ts))
+needed-agree lim n ts few h =
     record {
-      same = λ r b hr hb. sym (step-needed ts r b hr hb);
-      stay = λ r b m hr hb e. let q = t2-kept n ts (states-kept n ts h) r b m hr hb e in omega (arith, q .1);
+      same = λ r b hr hb. sym (step-needed lim ts r b hr hb);
+      stay = λ r b m hr hb e. let q = t2-kept lim n ts (states-kept lim n ts h) r b m hr hb e in omega (arith, q .1);
     }

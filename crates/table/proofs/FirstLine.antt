@@ -8,14 +8,15 @@ use native.Mathlib.Omega.{arith}
 use lib.ListN.{length}
 use Rattle.lists.specs.Order.{Rising}
 use Rattle.table.specs.Limits.{Limits}
+use Rattle.table.specs.Cells.{Cell}
 use Rattle.table.specs.Meaning.{Line, Table}
 use Rattle.table.specs.Text.{linesOf}
 use Rattle.table.specs.Header.{lineOf}
 use Rattle.table.specs.Mapping.{Form, noForm, reserved, blank, ending, mapping, mappedOf, lastOf}
 use Rattle.table.specs.Numbers.{lowest}
-use Rattle.table.specs.Load.{Reading, went, judged, lineAs, headerStep, mappingStep, lastStep, phaseStep, stepOf, tableOf, accepted, refused, outcomeAt, loadGo, start, loadOf}
-use Rattle.table.specs.FirstLine.{headerConditions, mappedConditions, lastConditions, phaseConditions, conditionsAt, unasked, readIn, behind, behindAll, Quiet, FirstHolds, NeverEnds, AllQuiet}
-use Rattle.table.specs.declared.header.Head.{Head}
+use Rattle.table.specs.Load.{Reading, went, judged, lineAs, headerAsks, mappingAsks, lastAsks, phaseAsks, stepOf, tableOf, accepted, refused, outcomeAt, loadGo, start, loadOf}
+use Rattle.table.specs.FirstLine.{conditionsAt, behind, behindAll, Quiet, FirstHolds, NeverEnds, AllQuiet}
+use Rattle.table.specs.Keys.{Keys}
 use Rattle.table.specs.declared.header.Line.{Line as HeaderLine}
 use Rattle.table.specs.declared.header.Line.the-variants as header
 use Rattle.table.specs.declared.load.Refusal.{Refusal}
@@ -27,67 +28,31 @@ use Rattle.table.specs.declared.load.Phase.the-variants.{Header, Mapping
 use Rattle.table.proofs.LowestLaws.{byNumber, key-rises, charmap-rises, mapping-rises, lowest-fine, fine-lowest, lowest-holds, holds-lowest}
 use Rattle.table.proofs.Accepted.{refused-accepted, accepted-same, stop-outcome}
 
--- a line is judged by its conditions
-header-judged : (lim : Limits) (r : Reading) (h : Head) (rows : List (List ℕ)) (s : List ℕ) (x : HeaderLine)
-    → headerStep lowest lim h rows s x ≡ judged (lowest (headerConditions lim h rows x)) (readIn r (headerStep unasked lim h rows s x))
-unfolding headerStep lowest
-header-judged lim r h rows s header.NoForm = refl
-header-judged lim r h rows s header.Blank = refl
-header-judged lim r h rows s header.Charmap = refl
-header-judged lim r h rows s (header.Known k v q e) = refl
-
-mapped-judged : (lim : Limits) (r : Reading) (h : Head) (rows : List (List ℕ)) (ls : List Line) (x : Form)
-    → mappingStep lowest lim h rows ls x ≡ judged (lowest (mappedConditions lim h rows ls x)) (readIn r (mappingStep unasked lim h rows ls x))
-unfolding mappingStep lowest
-mapped-judged lim r h rows ls noForm = refl
-mapped-judged lim r h rows ls reserved = refl
-mapped-judged lim r h rows ls blank = refl
-mapped-judged lim r h rows ls ending = refl
-mapped-judged lim r h rows ls (mapping u c d) = refl
-
-last-judged : (r : Reading) (h : Head) (rows : List (List ℕ)) (ls : List Line) (x : Form) → lastStep h rows ls x ≡ judged (lowest (lastConditions x)) (readIn r (lastStep h rows ls x))
-unfolding lastStep lowest
-last-judged r h rows ls noForm = refl
-last-judged r h rows ls reserved = refl
-last-judged r h rows ls blank = refl
-last-judged r h rows ls ending = refl
-last-judged r h rows ls (mapping u c d) = refl
-
-phase-judged : (lim : Limits) (r : Reading) (p : Phase) (h : Head) (rows : List (List ℕ)) (ls : List Line) (s : List ℕ)
-    → phaseStep lowest lim p h rows ls s ≡ judged (lowest (phaseConditions lim p h rows ls s)) (readIn r (phaseStep unasked lim p h rows ls s))
-unfolding phaseStep
-phase-judged lim r Header h rows ls s = header-judged lim r h rows s (lineOf s)
-phase-judged lim r Mappings h rows ls s = mapped-judged lim r h rows ls (mappedOf s)
-phase-judged lim r Ended h rows ls s = last-judged r h rows ls (lastOf s)
-
-pub step-judged : (lim : Limits) (r : Reading) (s : List ℕ) → stepOf lowest lim r s ≡ judged (lowest (conditionsAt lim r s)) (behind lim r s)
-step-judged lim r s = phase-judged lim r (r .phase) (r .head) (r .rows) (r .lines) s
-
 -- every table of conditions rises by number
-header-rises : (lim : Limits) (h : Head) (rows : List (List ℕ)) (x : HeaderLine) → Rising byNumber (headerConditions lim h rows x)
-header-rises lim h rows header.NoForm = (tt, tt)
-header-rises lim h rows header.Blank = tt
-header-rises lim h rows header.Charmap = charmap-rises h rows
-header-rises lim h rows (header.Known k v q e) = key-rises lim h k v
+header-rises : (lim : Limits) (h : Keys) (rows : List (List Cell)) (s : List ℕ) (x : HeaderLine) → Rising byNumber (headerAsks lim h rows s x .conditions)
+header-rises lim h rows s header.NoForm = (tt, tt)
+header-rises lim h rows s header.Blank = tt
+header-rises lim h rows s header.Charmap = charmap-rises h rows
+header-rises lim h rows s (header.Known k v q e) = key-rises lim h (length rows) k v
 
-mapped-rises : (lim : Limits) (h : Head) (rows : List (List ℕ)) (ls : List Line) (x : Form) → Rising byNumber (mappedConditions lim h rows ls x)
-mapped-rises lim h rows ls noForm = (tt, tt)
-mapped-rises lim h rows ls reserved = (tt, tt)
-mapped-rises lim h rows ls blank = tt
-mapped-rises lim h rows ls ending = tt
-mapped-rises lim h rows ls (mapping u c d) = mapping-rises lim h rows ls (lineAs u c d)
+mapping-line-rises : (lim : Limits) (h : Keys) (rows : List (List Cell)) (ls : List Line) (x : Form) → Rising byNumber (mappingAsks lim h rows ls x .conditions)
+mapping-line-rises lim h rows ls noForm = (tt, tt)
+mapping-line-rises lim h rows ls reserved = (tt, tt)
+mapping-line-rises lim h rows ls blank = tt
+mapping-line-rises lim h rows ls ending = tt
+mapping-line-rises lim h rows ls (mapping u c d) = mapping-rises lim h rows ls (lineAs u c d)
 
-last-rises : (x : Form) → Rising byNumber (lastConditions x)
-last-rises noForm = (tt, tt)
-last-rises reserved = (tt, tt)
-last-rises blank = tt
-last-rises ending = (tt, tt)
-last-rises (mapping u c d) = (tt, tt)
+last-rises : (h : Keys) (rows : List (List Cell)) (ls : List Line) (x : Form) → Rising byNumber (lastAsks h rows ls x .conditions)
+last-rises h rows ls noForm = (tt, tt)
+last-rises h rows ls reserved = (tt, tt)
+last-rises h rows ls blank = tt
+last-rises h rows ls ending = (tt, tt)
+last-rises h rows ls (mapping u c d) = (tt, tt)
 
-phase-rises : (lim : Limits) (p : Phase) (h : Head) (rows : List (List ℕ)) (ls : List Line) (s : List ℕ) → Rising byNumber (phaseConditions lim p h rows ls s)
-phase-rises lim Header h rows ls s = header-rises lim h rows (lineOf s)
-phase-rises lim Mappings h rows ls s = mapped-rises lim h rows ls (mappedOf s)
-phase-rises lim Ended h rows ls s = last-rises (lastOf s)
+phase-rises : (lim : Limits) (p : Phase) (h : Keys) (rows : List (List Cell)) (ls : List Line) (s : List ℕ) → Rising byNumber (phaseAsks lim p h rows ls s .conditions)
+phase-rises lim Header h rows ls s = header-rises lim h rows s (lineOf s)
+phase-rises lim Mappings h rows ls s = mapping-line-rises lim h rows ls (mappedOf s)
+phase-rises lim Ended h rows ls s = last-rises h rows ls (lastOf s)
 
 pub conditions-rise : (lim : Limits) (r : Reading) (s : List ℕ) → Rising byNumber (conditionsAt lim r s)
 conditions-rise lim r s = phase-rises lim (r .phase) (r .head) (r .rows) (r .lines) s
@@ -97,7 +62,7 @@ quiet-go : (lim : Limits) (ls rest : List (List ℕ)) (k : ℕ) (r : Reading) �
 unfolding loadGo behindAll
 quiet-go lim [] rest k r q = let e : k ≡ k + 0 = omega arith in ap (λ (n : ℕ). loadGo lowest lim n rest (went r)) e
 quiet-go lim (l ∷ ls) rest k r q =
-    let s : stepOf lowest lim r l ≡ went (behind lim r l) = step-judged lim r l ∙ ap (λ (v : Verdict). judged v (behind lim r l)) (fine-lowest (conditionsAt lim r l) (q .0)) in
+    let s : stepOf lowest lim r l ≡ went (behind lim r l) = ap (λ (v : Verdict). judged v (behind lim r l)) (fine-lowest (conditionsAt lim r l) (q .0)) in
     let e : k + 1 + length ls ≡ k + suc (length ls) = omega arith in
     ap (loadGo lowest lim (k + 1) (ls ++ rest)) s ∙ quiet-go lim ls rest (k + 1) (behind lim r l) (q .1)
     ∙ ap (λ (n : ℕ). loadGo lowest lim n rest (went (behindAll lim (behind lim r l) ls))) e
@@ -106,7 +71,7 @@ quiet-go lim (l ∷ ls) rest k r q =
 line-go : (lim : Limits) (line : List ℕ) (later : List (List ℕ)) (k : ℕ) (r : Reading) (x : Refusal) → lowest (conditionsAt lim r line) ≡ Refuse x → loadGo lowest lim k (line ∷ later) (went r) ≡ refused x (k + 1)
 unfolding loadGo
 line-go lim line later k r x e =
-    ap (loadGo lowest lim (k + 1) later) (step-judged lim r line ∙ ap (λ (v : Verdict). judged v (behind lim r line)) e) ∙ stop-outcome lowest lim (k + 1) later x
+    ap (loadGo lowest lim (k + 1) later) (ap (λ (v : Verdict). judged v (behind lim r line)) e) ∙ stop-outcome lowest lim (k + 1) later x
 
 -- each of the three gives its outcome
 first-outcome : (lim : Limits) (text : List ℕ) (x : Refusal) (k : ℕ) → FirstHolds lim (linesOf text) x k → loadOf lim text ≡ refused x k

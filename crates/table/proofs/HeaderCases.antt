@@ -4,6 +4,7 @@ use mathlib.Core.Bool.{true, false}
 use mathlib.Core.List.{List, [], _∷_, map}
 use Prim.Native.Nat.{ℕ}
 use lib.ListN.{getD}
+use Rattle.table.specs.Cells.{Cell, illegal, ends, endsAny, leads}
 use Rattle.table.specs.declared.header.Line.{Line}
 use Rattle.table.specs.declared.header.Key.the-variants.{CodeSetName, CurMin, CurMax, ConvClass, SubChar, SubChar1, State, Base, Other}
 use Rattle.table.specs.declared.header.Value.the-variants.{Unfit, Any, Later, Name, Min, Max, Class, Sub, Sub1, Row}
@@ -110,9 +111,9 @@ unfolding packed same anyOf digitOf skipOf begins endsAt flipped foreign content
 lines-read = refl
 
 -- ` 30-33, 31:1, 32.i`: later entries overwrite earlier, and bytes not named are illegal
-abbrev overlapping : List ℕ
+abbrev overlapping : List Cell
 overlapping = rowOf (columnsOf (32 ∷ 51 ∷ 48 ∷ 45 ∷ 51 ∷ 51 ∷ 44 ∷ 32 ∷ 51 ∷ 49 ∷ 58 ∷ 49 ∷ 44 ∷ 32 ∷ 51 ∷ 50 ∷ 46 ∷ 105 ∷ []))
 
-pub row-read : map (λ i. getD overlapping i 9) (47 ∷ 48 ∷ 49 ∷ 50 ∷ 51 ∷ 52 ∷ []) ≡ (0 ∷ 1 ∷ 17 ∷ 0 ∷ 1 ∷ 0 ∷ [])
+pub row-read : map (λ i. getD overlapping i endsAny) (47 ∷ 48 ∷ 49 ∷ 50 ∷ 51 ∷ 52 ∷ []) ≡ (illegal ∷ ends ∷ leads 1 ∷ illegal ∷ ends ∷ illegal ∷ [])
 unfolding digitOf skipOf begins numberAt toAt nextAt letterAt endAt itemSep itemEnd itemNext itemTo itemFrom itemAt columnsGo columnsAt commaAt openAt columnsFrom columnsOf rowOf painted spread meaning
 row-read = refl

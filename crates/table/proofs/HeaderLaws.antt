@@ -1,7 +1,7 @@
 -- Laws of header lines: the verdict on a line, ranges of values, the rows that lines give.
 use mathlib.Core.Path.{_≡_, refl, sym, subst}
 use mathlib.Core.Bool.{Bool, true, false}
-use mathlib.Core.List.{List, [], _∷_, _++_}
+use mathlib.Core.List.{List, [], _∷_}
 use Prim.Native.Nat.{ℕ, _+_, _-_, _/_, _<_, _≤_}
 use native.Mathlib.Omega.{arith}
 use lib.Dec.{ltb, leb, eqb}
@@ -9,11 +9,11 @@ use lib.ListN.{length, getD, take, drop, replicate, length-replicate}
 use borrow.Author.Tests.{leb-false, leb-true, eqb-false}
 use Rattle.lists.specs.Pick.{pick}
 use Rattle.lists.specs.Order.{All}
-use Rattle.lists.proofs.Laws.{clash, both}
-use Rattle.lists.proofs.Order.{all-map, all-of}
+use Rattle.lists.proofs.Laws.{clash}
+use Rattle.lists.proofs.Order.{all-map}
 use Rattle.lists.proofs.Cases.{pick-case}
 use Rattle.lists.proofs.Chains.{either-rest}
-use Rattle.lists.proofs.AllParts.{all-same}
+use Rattle.table.specs.Cells.{Cell, illegal}
 use Rattle.table.specs.declared.header.Line.{Line}
 use Rattle.table.specs.declared.text.Num.{Num}
 use Rattle.table.specs.declared.text.Num.the-variants.{Val, Bad}
@@ -29,30 +29,27 @@ use Rattle.table.specs.declared.header.Key.the-variants.{CodeSetName, Cu
 use Rattle.table.specs.declared.header.Value.{Value}
 use Rattle.table.specs.declared.header.Value.the-variants.{Unfit, Any, Later, Name, Min, Max, Class, Sub, Sub1, Row}
 use Rattle.table.specs.declared.header.Line.the-variants.{NoForm, Blank, Charmap, Known}
-use Rattle.table.specs.declared.header.Head.{Head}
 use Rattle.table.specs.declared.load.Verdict.the-variants.{Fine, Refuse}
 use Rattle.table.specs.Text.{byteOf, skipAt, endsAt, contentEnd, byteAt, joinAt, Series, withByte, bytesMore, bytesFrom, bytesAt, runOf, isCharmap, series, broken}
-use Rattle.table.specs.Row.{wellAt, painted, openAt, columnsOf, rowOf}
+use Rattle.table.specs.Row.{wellAt, meaning, openAt, columnsOf, rowOf}
 use Rattle.table.specs.Header.{keyEnd, keyOf, quotedOf, nameIn, className, classIn, digitIn, minIn, maxIn, subIn, sub1Value, rowFrom, rowIn, valueOf, isRow, keyLine, keyedLine, lineAt, lineOf, InRange}
+use Rattle.table.specs.Keys.{Keys}
 use Rattle.table.specs.Numbers.{n11, n12, n14, rowOver, n15, lowest, keyConditions}
-use Rattle.table.specs.Load.{keepRow}
-use Rattle.table.specs.Limits.{Limits, limits}
+use Rattle.table.specs.Limits.{Limits}
 use Rattle.table.specs.Meaning.{same}
-use Rattle.table.specs.Rules.{allOf}
 use Rattle.table.specs.Codes.{packed, unpacked, AllByte}
-use Rattle.table.specs.Memory.{known}
 use Rattle.table.proofs.LowestLaws.{lowest-fine}
 use Rattle.table.proofs.Packing.{length-unpacked, unpacked-bytes, packed-fits, packed-padded, pack-unpack}
 use Rattle.table.proofs.TextLaws.{scan, ends-inside, Forth, byte-forth, SeriesByte, more-bytes}
-use Rattle.table.proofs.RowText.{Bounded, columns-bounded, painted-length, painted-all, meaning-known}
+use Rattle.table.proofs.RowText.{Bounded, columns-bounded, painted-length}
 use Rattle.table.specs.declared.load.Refusal.the-variants as refusal
 
 -- a key's line, condition by condition
-pub key-verdict : (h : Head) (k : Key) (v : Value) →
-    lowest (keyConditions limits h k v)
-    ≡ pick (n11 h k) (Refuse refusal.KeyAgain) (pick (n12 v) (Refuse refusal.UnfitValue) (pick (n14 (h .rows) v) (Refuse refusal.NotBuilt) (pick (n15 limits (h .rows) v) (Refuse refusal.OutOfRange) Fine)))
+pub key-verdict : (lim : Limits) (h : Keys) (n : ℕ) (k : Key) (v : Value) →
+    lowest (keyConditions lim h n k v)
+    ≡ pick (n11 h k) (Refuse refusal.KeyAgain) (pick (n12 v) (Refuse refusal.UnfitValue) (pick (n14 n v) (Refuse refusal.NotBuilt) (pick (n15 lim n v) (Refuse refusal.OutOfRange) Fine)))
 unfolding lowest keyConditions
-key-verdict h k v = refl
+key-verdict lim h n k v = refl
 
 -- subchar and subchar1 by the run of bytes as the code holds it
 abbrev pub subRun : List ℕ → Run → Value
@@ -232,43 +229,17 @@ over-room lim rows (Sub b n) r e = absurd (clash r refl)
 over-room lim rows (Sub1 b) r e = absurd (clash r refl)
 over-room lim rows (Row w l o) r e = either-rest o (leb (lim .rows) rows) e
 
-pub row-room : (h : Head) (k : Key) (v : Value) → lowest (keyConditions limits h k v) ≡ Fine → isRow v ≡ true → h .rows < 16
+pub row-room : (lim : Limits) (h : Keys) (n : ℕ) (k : Key) (v : Value) → lowest (keyConditions lim h n k v) ≡ Fine → isRow v ≡ true → n < lim .rows
 unfolding keyConditions
-row-room h k v e r = leb-false 16 (h .rows) (over-room limits (h .rows) v r (lowest-fine (keyConditions limits h k v) e .1 .1 .1 .0))
+row-room lim h n k v e r = leb-false (lim .rows) n (over-room lim n v r (lowest-fine (keyConditions lim h n k v) e .1 .1 .1 .0))
 
--- the rows with a value's row behind them
-pub keep-row : (v : Value) (s : List ℕ) (rows : List (List ℕ)) → keepRow v s rows ≡ pick (isRow v) (rows ++ (rowOf (columnsOf s) ∷ [])) rows
-unfolding keepRow isRow
-keep-row Unfit s rows = refl
-keep-row Any s rows = refl
-keep-row Later s rows = refl
-keep-row Name s rows = refl
-keep-row (Min d) s rows = refl
-keep-row (Max d) s rows = refl
-keep-row (Class c) s rows = refl
-keep-row (Sub b n) s rows = refl
-keep-row (Sub1 b) s rows = refl
-keep-row (Row w l o) s rows = refl
-
--- a row has 256 entries
+-- a row has 256 cells
 pub row-full : (cs : List Column) → All (λ c. c .hi < 256) cs → length (rowOf cs) ≡ 256
 unfolding rowOf
-row-full cs h = painted-length cs 256 (replicate 256 0) h (length-replicate {A = ℕ} 256 0)
+row-full cs h = painted-length meaning cs 256 (replicate 256 illegal) h (length-replicate {A = Cell} 256 illegal)
 
 pub row-length : (s : List ℕ) → length (rowOf (columnsOf s)) ≡ 256
 row-length s = row-full (columnsOf s) (all-map (λ c (b : Bounded c). b .0) (columnsOf s) (columns-bounded s))
-
-all-true : (f : ℕ → Bool) (l : List ℕ) → All (λ x. f x ≡ true) l → allOf f l ≡ true
-unfolding allOf
-all-true f [] h = refl
-all-true f (x ∷ l) h = both (f x) (allOf f l) (h .0) (all-true f l (h .1))
-
--- each of which is 0 to 3 or leads on
-pub row-known : (s : List ℕ) → allOf known (rowOf (columnsOf s)) ≡ true
-unfolding rowOf
-row-known s =
-    all-true known (painted (columnsOf s) (replicate 256 0))
-    (painted-all (λ x. known x ≡ true) (columnsOf s) (replicate 256 0) (all-of (columnsOf s) (λ c i. meaning-known c)) (all-same (λ x. known x ≡ true) 256 0 refl))
 
 -- subchar as a code, and its bytes
 pub sub-bytes : (b n : ℕ) → InRange (Sub b n) → (length (unpacked n b) ≡ n) × AllByte (unpacked n b) × (packed (unpacked n b) ≡ b)

@@ -2,7 +2,7 @@
 -- in-order        the lines so far in the text's order       header-said      what was read up to CHARMAP is what the header says
 -- key-asked       no condition holds at a line of it         nothing-absent   nor at CHARMAP
 -- says-one        one header says one table
-use Prim.Native.Nat.{ℕ, suc, _+_, _-_, _<_, _≤_}
+use Prim.Native.Nat.{ℕ, suc, _+_, _<_, _≤_}
 use mathlib.Core.Path.{_≡_, refl, sym, ap, _∙_, subst}
 use mathlib.Core.Logic.{_⊎_, inl, inr}
 use mathlib.Core.Bool.{Bool, true, false}
@@ -10,35 +10,34 @@ use mathlib.Core.Option.{Option, none, some}
 use mathlib.Core.List.{List, [], _∷_, _++_, map, reverse, reverseAux, reverseAux-eq}
 use native.Mathlib.Omega.{arith}
 use lib.ListN.{length, replicate, length-append, length-reverseAux}
-use lib.Dec.{ltb, eqb}
-use borrow.Author.Tests.{ltb-true, lt-ltb, le-ltb, lt-leb, eqb-true, eqb-false, ne-eqb}
+use lib.Dec.{eqb}
+use borrow.Author.Tests.{lt-leb, eqb-true, eqb-false, ne-eqb}
 use Rattle.lists.specs.Pick.{pick}
 use Rattle.lists.specs.Ascii.{ascii}
 use Rattle.lists.proofs.Laws.{clash}
 use Rattle.lists.proofs.Choice.{pick-false}
 use Rattle.lists.proofs.Chains.{chain, chain-first, chain-rest}
 use Rattle.table.specs.Limits.{Limits}
-use Rattle.table.specs.Codes.{packed, bytesOf}
+use Rattle.table.specs.Cells.{Cell, ends}
+use Rattle.table.specs.Codes.{packed}
 use Rattle.table.specs.Meaning.{Line, Table, same}
-use Rattle.table.specs.Memory.{sub1In}
+use Rattle.table.specs.Keys.{Class as ConvClasses, sbcs, mbcs, Keys, isSome, isSbcs, minOf, maxOf, subcharOf}
 use Rattle.table.specs.Row.{rowOf, painted, spread, meaning}
 use Rattle.table.specs.Header.{className, valueOf}
 use Rattle.table.specs.Numbers.{n11, n12, n13, n14, n15, rowLater, rowOver, rowsAt}
-use Rattle.table.specs.Load.{headAt}
 use Rattle.table.specs.Grammar.{Pair, keyText, NameValue, SizeValue, Quoted, BytesValue, SubcharValue, StateRow, StateRows, valuesOf, Once, Perhaps, everyByte, RowsAre, HeaderSays}
 use Rattle.table.specs.declared.header.Column.{Column}
 use Rattle.table.specs.declared.header.Key.{Key}
 use Rattle.table.specs.declared.header.Key.the-variants.{CodeSetName, CurMin, CurMax, ConvClass, SubChar, SubChar1, State, Base, Other}
 use Rattle.table.specs.declared.header.Value.{Value}
 use Rattle.table.specs.declared.header.Value.the-variants.{Min, Max, Class, Sub, Sub1, Row}
-use Rattle.table.specs.declared.header.Head.{Head}
 use Rattle.table.proofs.LineLaws.{is-same}
 use Rattle.table.proofs.Packing.{pack-one-way}
 use Rattle.table.proofs.Judged.{tableWith}
 use Rattle.table.proofs.ValueRead.{name-reads, min-reads, max-reads, class-reads, sub-reads, sub1-reads, bytes-are}
 use Rattle.table.proofs.RowRead.{row-reads}
 use Rattle.table.proofs.RowEntries.{none-later, none-over}
-use Rattle.table.proofs.KeysHeld.{pair, KeyMeans, Given, Slot, flag, ClassOf, Subchar1Of, Slots, RowsHeld, Held}
+use Rattle.table.proofs.KeysHeld.{pair, KeyMeans, Given, Slot, flag, given1, ClassOf, Subchar1Of, Slots, RowsHeld, Held}
 
 -- ## The lines of a header, the last one first, and in the text's order
 
@@ -64,10 +63,10 @@ slot-reversed {n} {P} k ps s = by-slot (s .either)
     by-slot (inr (one, (v, e, f))) = record { either = inr (one, (v, values-reverse k ps [] ∙ ap reverse e, f)) }
 
 -- the same as `Held`, in the text's order
-abbrev pub Ordered : Head → List (List ℕ) → List Pair → Type 0
-Ordered h rows qs = Slots h qs × RowsHeld (h .rows) rows (valuesOf State qs) (valuesOf Base qs)
+abbrev pub Ordered : Keys → List (List Cell) → List Pair → Type 0
+Ordered h rows qs = Slots h qs × RowsHeld rows (valuesOf State qs) (valuesOf Base qs)
 
-pub in-order : (h : Head) (rows : List (List ℕ)) (ps : List Pair) → Held h rows ps → Ordered h rows (reverse ps)
+pub in-order : (h : Keys) (rows : List (List Cell)) (ps : List Pair) → Held h rows ps → Ordered h rows (reverse ps)
 unfolding valuesOf
 in-order h rows ps (s, r) = (
   (
@@ -89,6 +88,9 @@ in-order h rows ps (s, r) = (
 
 -- ## From what was read to what the header says
 
+flag-one : (b : Bool) → b ≡ true → 1 ≤ flag b
+flag-one b e = let z : flag b ≡ 1 = ap flag e in omega arith
+
 given-once : (n : ℕ) (P : List ℕ → Type 0) (vs : List (List ℕ)) → Slot n P vs → 1 ≤ n → (v : List ℕ) × (vs ≡ v ∷ []) × P v
 given-once n P vs s one = by-slot (s .either)
   where
@@ -103,91 +105,92 @@ unset n P vs s e = by-slot (s .either)
     by-slot (inl (z, x)) = z
     by-slot (inr (one, (v, x, f))) = absurd (let k : _≡_ {A = ℕ} 0 1 = ap length (sym e ∙ x) in omega arith)
 
-every-byte : rowOf (everyByte ∷ []) ≡ replicate 256 1
+every-byte : rowOf (everyByte ∷ []) ≡ replicate 256 ends
 unfolding rowOf painted spread meaning
 every-byte = refl
 
-sub1-some : (b : ℕ) → sub1In (1 + b) ≡ some b
-sub1-some b = let k : 1 + b - 1 ≡ b = omega arith in rw (ne-eqb (1 + b) 0 (λ e. omega arith), k)
+none-is : (o : Option ℕ) → given1 o ≡ 0 → o ≡ none
+none-is none e = refl
+none-is (some b) e = absurd (omega arith)
 
-sub1-says : (n : ℕ) (ps : List Pair) → Slot n (Subchar1Of n) (valuesOf SubChar1 ps) → Perhaps (sub1In n) ps
-sub1-says n ps s = by-slot (s .either)
+sub1-says : (o : Option ℕ) (ps : List Pair) → Slot (given1 o) (Subchar1Of o) (valuesOf SubChar1 ps) → Perhaps o ps
+sub1-says o ps s = by-slot (s .either)
   where
-    by-slot : Given n (Subchar1Of n) (valuesOf SubChar1 ps) → Perhaps (sub1In n) ps
-    by-slot (inl (z, e)) = subst (λ (m : ℕ). Perhaps (sub1In m) ps) (sym z) e
-    by-slot (inr (one, (v, e, (b, k, f)))) = subst (λ (o : Option ℕ). Perhaps o ps) (sym (ap sub1In k ∙ sub1-some b)) (v, e, f)
+    by-slot : Given (given1 o) (Subchar1Of o) (valuesOf SubChar1 ps) → Perhaps o ps
+    by-slot (inl (z, e)) = subst (λ (x : Option ℕ). Perhaps x ps) (sym (none-is o z)) e
+    by-slot (inr (one, (v, e, (b, k, f)))) = subst (λ (x : Option ℕ). Perhaps x ps) (sym k) (v, e, f)
 
 -- the rows at CHARMAP
 none-long : (ess : List (List Column)) → length ess ≡ 0 → ess ≡ []
 none-long [] e = refl
 none-long (x ∷ ess) e = absurd (omega arith)
 
-rows-some : (h : Head) (rows : List (List ℕ)) → eqb (h .rows) 0 ≡ false → rowsAt h rows ≡ rows
+rows-some : (h : Keys) (rows : List (List Cell)) → eqb (length rows) 0 ≡ false → rowsAt h rows ≡ rows
 unfolding rowsAt
-rows-some h rows e = by-class (eqb (h .class) 1)
+rows-some h rows e = by-class (isSbcs (h .class))
   where
-    by-class : (x : Bool) → pick x (pick (eqb (h .rows) 0) (replicate 256 1 ∷ []) rows) rows ≡ rows
+    by-class : (x : Bool) → pick x (pick (eqb (length rows) 0) (replicate 256 ends ∷ []) rows) rows ≡ rows
     by-class true = rw e
     by-class false = refl
 
-rows-none : (h : Head) (rows : List (List ℕ)) → h .class ≡ 1 → eqb (h .rows) 0 ≡ true → rowsAt h rows ≡ replicate 256 1 ∷ []
+rows-none : (h : Keys) (rows : List (List Cell)) → h .class ≡ some sbcs → eqb (length rows) 0 ≡ true → rowsAt h rows ≡ replicate 256 ends ∷ []
 unfolding rowsAt
 rows-none h rows c e = rw (c, e)
 
-rows-say : (h : Head) (rows : List (List ℕ)) (w : List ℕ) (ess : List (List Column)) → ((h .class ≡ 1) × (w ≡ ascii "SBCS")) ⊎ ((h .class ≡ 2) × (w ≡ ascii "MBCS"))
-    → h .rows ≡ length ess → rows ≡ map rowOf ess → pick (eqb (h .class) 1) false (eqb (h .rows) 0) ≡ false → RowsAre w ess (rowsAt h rows)
-rows-say h rows w ess c n r k = by-count (eqb (h .rows) 0) refl c
+rows-say : (h : Keys) (rows : List (List Cell)) (w : List ℕ) (ess : List (List Column)) → ((h .class ≡ some sbcs) × (w ≡ ascii "SBCS")) ⊎ ((h .class ≡ some mbcs) × (w ≡ ascii "MBCS"))
+    → length rows ≡ length ess → rows ≡ map rowOf ess → pick (isSbcs (h .class)) false (eqb (length rows) 0) ≡ false → RowsAre w ess (rowsAt h rows)
+rows-say h rows w ess c n r k = by-count (eqb (length rows) 0) refl c
   where
-    by-count : (x : Bool) → eqb (h .rows) 0 ≡ x → ((h .class ≡ 1) × (w ≡ ascii "SBCS")) ⊎ ((h .class ≡ 2) × (w ≡ ascii "MBCS")) → RowsAre w ess (rowsAt h rows)
-    by-count false e d = let m = eqb-false (h .rows) 0 e in inl (omega arith, rows-some h rows e ∙ r)
+    by-count : (x : Bool) → eqb (length rows) 0 ≡ x → ((h .class ≡ some sbcs) × (w ≡ ascii "SBCS")) ⊎ ((h .class ≡ some mbcs) × (w ≡ ascii "MBCS")) → RowsAre w ess (rowsAt h rows)
+    by-count false e d = let m = eqb-false (length rows) 0 e in inl (omega arith, rows-some h rows e ∙ r)
     by-count true e (inl (d, s)) =
-        let m = eqb-true (h .rows) 0 e in
-        inr (none-long ess (omega arith), s, rows-none h rows d e ∙ ap (λ (l : List ℕ). l ∷ []) (sym every-byte))
-    by-count true e (inr (d, s)) = let z : eqb (h .rows) 0 ≡ false = sym (ap (λ (m : ℕ). pick (eqb m 1) false (eqb (h .rows) 0)) d) ∙ k in absurd (clash e z)
+        let m = eqb-true (length rows) 0 e in
+        inr (none-long ess (omega arith), s, rows-none h rows d e ∙ ap (λ (l : List Cell). l ∷ []) (sym every-byte))
+    by-count true e (inr (d, s)) = let z : eqb (length rows) 0 ≡ false = sym (ap (λ (c : Option ConvClasses). pick (isSbcs c) false (eqb (length rows) 0)) d) ∙ k in absurd (clash e z)
 
-module _ (h : Head) (rows : List (List ℕ)) (ps : List Pair) (ls : List Line) (held : Ordered h rows ps) where
+module _ (h : Keys) (rows : List (List Cell)) (ps : List Pair) (ls : List Line) (held : Ordered h rows ps) where
   -- at CHARMAP, with nothing absent
-  says-by : pick (eqb (h .class) 1) false (eqb (h .rows) 0) ≡ false → h .name ≡ true → 1 ≤ h .min → 1 ≤ h .max → 1 ≤ h .class → 1 ≤ h .sub .len
-      → HeaderSays ps (tableWith (headAt h (rowsAt h rows)) (rowsAt h rows) ls)
+  says-by : pick (isSbcs (h .class)) false (eqb (length rows) 0) ≡ false → h .name ≡ true → 1 ≤ given1 (h .min) → 1 ≤ given1 (h .max) → 1 ≤ given1 (h .class) → 1 ≤ given1 (h .subchar)
+      → HeaderSays ps (tableWith h (rowsAt h rows) ls)
   says-by k name min max class sub =
       let s = held .0 in
       let r = held .1 in
-      let c = given-once (h .class) (ClassOf (h .class)) (valuesOf ConvClass ps) (s .3) class in
+      let c = given-once (given1 (h .class)) (ClassOf (h .class)) (valuesOf ConvClass ps) (s .3) class in
       by-class (c .0) (c .1) (c .2) s r
     where
-      made : (w : List ℕ) → Once ConvClass (Quoted w) ps → (w ≡ ascii "SBCS") ⊎ (w ≡ ascii "MBCS") → ((h .class ≡ 1) × (w ≡ ascii "SBCS")) ⊎ ((h .class ≡ 2) × (w ≡ ascii "MBCS"))
-          → Slots h ps → RowsHeld (h .rows) rows (valuesOf State ps) (valuesOf Base ps) → HeaderSays ps (tableWith (headAt h (rowsAt h rows)) (rowsAt h rows) ls)
+      made : (w : List ℕ) → Once ConvClass (Quoted w) ps → (w ≡ ascii "SBCS") ⊎ (w ≡ ascii "MBCS") → ((h .class ≡ some sbcs) × (w ≡ ascii "SBCS")) ⊎ ((h .class ≡ some mbcs) × (w ≡ ascii "MBCS"))
+          → Slots h ps → RowsHeld rows (valuesOf State ps) (valuesOf Base ps) → HeaderSays ps (tableWith h (rowsAt h rows) ls)
       made w q b d s r =
           record {
             class = w;
             entries = r .entries;
             name = given-once (flag (h .name)) NameValue (valuesOf CodeSetName ps) (s .0) (let e : flag (h .name) ≡ 1 = ap flag name in omega arith);
-            min = given-once (h .min) (SizeValue (h .min)) (valuesOf CurMin ps) (s .1) min;
-            max = given-once (h .max) (SizeValue (h .max)) (valuesOf CurMax ps) (s .2) max;
+            min = given-once (given1 (h .min)) (SizeValue (minOf h)) (valuesOf CurMin ps) (s .1) min;
+            max = given-once (given1 (h .max)) (SizeValue (maxOf h)) (valuesOf CurMax ps) (s .2) max;
             quoted = q;
             built = b;
-            subchar = given-once (h .sub .len) (SubcharValue (bytesOf (h .sub))) (valuesOf SubChar ps) (s .4) sub;
-            subchar1 = sub1-says (h .sub1) ps (s .5);
+            subchar = given-once (given1 (h .subchar)) (SubcharValue (subcharOf h)) (valuesOf SubChar ps) (s .4) sub;
+            subchar1 = sub1-says (h .subchar1) ps (s .5);
             no-base = r .no-base;
             states = r .states;
             rows = rows-say h rows w (r .entries) d (r .counted) (r .rows-are) k;
           }
 
-      by-class : (v : List ℕ) → valuesOf ConvClass ps ≡ v ∷ [] → ClassOf (h .class) v → Slots h ps → RowsHeld (h .rows) rows (valuesOf State ps) (valuesOf Base ps)
-          → HeaderSays ps (tableWith (headAt h (rowsAt h rows)) (rowsAt h rows) ls)
+      by-class : (v : List ℕ) → valuesOf ConvClass ps ≡ v ∷ [] → ClassOf (h .class) v → Slots h ps → RowsHeld rows (valuesOf State ps) (valuesOf Base ps)
+          → HeaderSays ps (tableWith h (rowsAt h rows) ls)
       by-class v e (inl (d, q)) s r = made (ascii "SBCS") (v, e, q) (inl refl) (inl (d, refl)) s r
       by-class v e (inr (d, q)) s r = made (ascii "MBCS") (v, e, q) (inr refl) (inr (d, refl)) s r
 
-  pub header-said : n13 h ≡ false → HeaderSays ps (tableWith (headAt h (rowsAt h rows)) (rowsAt h rows) ls)
+  pub header-said : n13 h (length rows) ≡ false → HeaderSays ps (tableWith h (rowsAt h rows) ls)
   unfolding n13
   header-said e =
       let a1 = chain-rest (h .name) _ e in
-      let a2 = chain-rest (ltb 0 (h .min)) _ a1 in
-      let a3 = chain-rest (ltb 0 (h .max)) _ a2 in
-      let a4 = chain-rest (ltb 0 (h .class)) _ a3 in
-      says-by (chain-rest (ltb 0 (h .sub .len)) _ a4) (chain-first (h .name) _ e) (ltb-true 0 (h .min) (chain-first (ltb 0 (h .min)) _ a1))
-      (ltb-true 0 (h .max) (chain-first (ltb 0 (h .max)) _ a2)) (ltb-true 0 (h .class) (chain-first (ltb 0 (h .class)) _ a3))
-      (ltb-true 0 (h .sub .len) (chain-first (ltb 0 (h .sub .len)) _ a4))
+      let a2 = chain-rest (isSome (h .min)) _ a1 in
+      let a3 = chain-rest (isSome (h .max)) _ a2 in
+      let a4 = chain-rest (isSome (h .class)) _ a3 in
+      says-by (chain-rest (isSome (h .subchar)) _ a4) (chain-first (h .name) _ e) (flag-one (isSome (h .min)) (chain-first (isSome (h .min)) _ a1))
+      (flag-one (isSome (h .max)) (chain-first (isSome (h .max)) _ a2)) (flag-one (isSome (h .class)) (chain-first (isSome (h .class)) _ a3))
+      (flag-one (isSome (h .subchar)) (chain-first (isSome (h .subchar)) _ a4))
 
 -- ## From what the header says to what reading asks at each line
 
@@ -205,14 +208,11 @@ once-here k v P ps qs (x, e, f) =
     (o .0, subst P (sym (o .1)) f)
 
 -- no condition of the grammar holds at a line of key k and value x
-pub record Asked (lim : Limits) (h : Head) (k : Key) (x : Value) : Type 0 where
+pub record Asked (lim : Limits) (h : Keys) (n : ℕ) (k : Key) (x : Value) : Type 0 where
   pub again : n11 h k ≡ false
   pub fit : n12 x ≡ false
-  pub built : n14 (h .rows) x ≡ false
-  pub ranged : n15 lim (h .rows) x ≡ false
-
-unkept : (n : ℕ) → n ≡ 0 → ltb 0 n ≡ false
-unkept n e = le-ltb 0 n (omega arith)
+  pub built : n14 n x ≡ false
+  pub ranged : n15 lim n x ≡ false
 
 flag-none : (b : Bool) → flag b ≡ 0 → b ≡ false
 flag-none false e = refl
@@ -239,56 +239,56 @@ unfolding rowLater
 word-built n k (inl e) = rw e
 word-built n k (inr (e, z)) = rw (e, z)
 
-row-asked : (lim : Limits) (h : Head) (es : List Column) (v : List ℕ) → StateRow (h .rows) es v → h .rows < lim .rows → Asked lim h State (valueOf State v)
+row-asked : (lim : Limits) (h : Keys) (n : ℕ) (es : List Column) (v : List ℕ) → StateRow n es v → n < lim .rows → Asked lim h n State (valueOf State v)
 unfolding n11 n12 n14 n15 rowOver
-row-asked lim h es v r room =
+row-asked lim h n es v r room =
     let e : valueOf State v ≡ Row (r .word) false false = row-reads (r .word) es v (r .form) .1 ∙ (λ i. Row (r .word) (none-later es .1 (r .built) i) (none-over es .1 (r .ranged) i)) in
-    subst (Asked lim h State) (sym e)
-    (record { again = refl; fit = refl; built = word-built (h .rows) (r .word) (r .opening); ranged = lt-leb (lim .rows) (h .rows) room })
+    subst (Asked lim h n State) (sym e)
+    (record { again = refl; fit = refl; built = word-built n (r .word) (r .opening); ranged = lt-leb (lim .rows) n room })
 
-module _ (lim : Limits) (h : Head) (rows : List (List ℕ)) (ps qs : List Pair) (v : List ℕ) (t : Table) (held : Held h rows ps) where
-  name-asked : Once CodeSetName NameValue (reverseAux ps (pair (keyText CodeSetName) v ∷ qs)) → Asked lim h CodeSetName (valueOf CodeSetName v)
+module _ (lim : Limits) (h : Keys) (rows : List (List Cell)) (ps qs : List Pair) (v : List ℕ) (t : Table) (held : Held h rows ps) where
+  name-asked : Once CodeSetName NameValue (reverseAux ps (pair (keyText CodeSetName) v ∷ qs)) → Asked lim h (length rows) CodeSetName (valueOf CodeSetName v)
   unfolding n11 n12 n14 n15
   name-asked o =
       let a = once-here CodeSetName v NameValue ps qs o in
       let z = unset (flag (h .name)) NameValue (valuesOf CodeSetName ps) (held .0 .0) (a .0) in
-      subst (Asked lim h CodeSetName) (sym (name-reads v (a .1))) (record { again = flag-none (h .name) z; fit = refl; built = refl; ranged = refl })
+      subst (Asked lim h (length rows) CodeSetName) (sym (name-reads v (a .1))) (record { again = flag-none (h .name) z; fit = refl; built = refl; ranged = refl })
 
-  min-asked : Once CurMin (SizeValue (t .min)) (reverseAux ps (pair (keyText CurMin) v ∷ qs)) → Asked lim h CurMin (valueOf CurMin v)
+  min-asked : Once CurMin (SizeValue (t .min)) (reverseAux ps (pair (keyText CurMin) v ∷ qs)) → Asked lim h (length rows) CurMin (valueOf CurMin v)
   unfolding n11 n12 n14 n15
   min-asked o =
       let a = once-here CurMin v (SizeValue (t .min)) ps qs o in
-      let z = unset (h .min) (SizeValue (h .min)) (valuesOf CurMin ps) (held .0 .1) (a .0) in
-      subst (Asked lim h CurMin) (sym (min-reads (t .min) v (a .1))) (record { again = unkept (h .min) z; fit = refl; built = refl; ranged = refl })
+      let z = unset (given1 (h .min)) (SizeValue (minOf h)) (valuesOf CurMin ps) (held .0 .1) (a .0) in
+      subst (Asked lim h (length rows) CurMin) (sym (min-reads (t .min) v (a .1))) (record { again = flag-none (isSome (h .min)) z; fit = refl; built = refl; ranged = refl })
 
-  max-asked : Once CurMax (SizeValue (t .max)) (reverseAux ps (pair (keyText CurMax) v ∷ qs)) → Asked lim h CurMax (valueOf CurMax v)
+  max-asked : Once CurMax (SizeValue (t .max)) (reverseAux ps (pair (keyText CurMax) v ∷ qs)) → Asked lim h (length rows) CurMax (valueOf CurMax v)
   unfolding n11 n12 n14 n15
   max-asked o =
       let a = once-here CurMax v (SizeValue (t .max)) ps qs o in
-      let z = unset (h .max) (SizeValue (h .max)) (valuesOf CurMax ps) (held .0 .2) (a .0) in
-      subst (Asked lim h CurMax) (sym (max-reads (t .max) v (a .1))) (record { again = unkept (h .max) z; fit = refl; built = refl; ranged = refl })
+      let z = unset (given1 (h .max)) (SizeValue (maxOf h)) (valuesOf CurMax ps) (held .0 .2) (a .0) in
+      subst (Asked lim h (length rows) CurMax) (sym (max-reads (t .max) v (a .1))) (record { again = flag-none (isSome (h .max)) z; fit = refl; built = refl; ranged = refl })
 
-  class-asked : (w : List ℕ) → (w ≡ ascii "SBCS") ⊎ (w ≡ ascii "MBCS") → Once ConvClass (Quoted w) (reverseAux ps (pair (keyText ConvClass) v ∷ qs)) → Asked lim h ConvClass (valueOf ConvClass v)
+  class-asked : (w : List ℕ) → (w ≡ ascii "SBCS") ⊎ (w ≡ ascii "MBCS") → Once ConvClass (Quoted w) (reverseAux ps (pair (keyText ConvClass) v ∷ qs)) → Asked lim h (length rows) ConvClass (valueOf ConvClass v)
   unfolding n11 n12 n14 n15 className same
   class-asked w b o = by-class b
     where
-      zero-class : ltb 0 (h .class) ≡ false
-      zero-class = unkept (h .class) (unset (h .class) (ClassOf (h .class)) (valuesOf ConvClass ps) (held .0 .3) (once-here ConvClass v (Quoted w) ps qs o .0))
+      zero-class : isSome (h .class) ≡ false
+      zero-class = flag-none (isSome (h .class)) (unset (given1 (h .class)) (ClassOf (h .class)) (valuesOf ConvClass ps) (held .0 .3) (once-here ConvClass v (Quoted w) ps qs o .0))
 
-      by-class : (w ≡ ascii "SBCS") ⊎ (w ≡ ascii "MBCS") → Asked lim h ConvClass (valueOf ConvClass v)
+      by-class : (w ≡ ascii "SBCS") ⊎ (w ≡ ascii "MBCS") → Asked lim h (length rows) ConvClass (valueOf ConvClass v)
       by-class (inl e) =
-          subst (Asked lim h ConvClass) (sym (class-reads w v (once-here ConvClass v (Quoted w) ps qs o .1) ∙ ap className e))
+          subst (Asked lim h (length rows) ConvClass) (sym (class-reads w v (once-here ConvClass v (Quoted w) ps qs o .1) ∙ ap className e))
           (record { again = zero-class; fit = refl; built = refl; ranged = refl })
       by-class (inr e) =
-          subst (Asked lim h ConvClass) (sym (class-reads w v (once-here ConvClass v (Quoted w) ps qs o .1) ∙ ap className e))
+          subst (Asked lim h (length rows) ConvClass) (sym (class-reads w v (once-here ConvClass v (Quoted w) ps qs o .1) ∙ ap className e))
           (record { again = zero-class; fit = refl; built = refl; ranged = refl })
 
-  sub-asked : Once SubChar (SubcharValue (t .subchar)) (reverseAux ps (pair (keyText SubChar) v ∷ qs)) → Asked lim h SubChar (valueOf SubChar v)
+  sub-asked : Once SubChar (SubcharValue (t .subchar)) (reverseAux ps (pair (keyText SubChar) v ∷ qs)) → Asked lim h (length rows) SubChar (valueOf SubChar v)
   unfolding n11 n12 n14 n15
   sub-asked o =
       let a = once-here SubChar v (SubcharValue (t .subchar)) ps qs o in
-      let z = unset (h .sub .len) (SubcharValue (bytesOf (h .sub))) (valuesOf SubChar ps) (held .0 .4) (a .0) in
-      subst (Asked lim h SubChar) (sym (sub-reads (t .subchar) v (a .1))) (record { again = unkept (h .sub .len) z; fit = refl; built = refl; ranged = refl })
+      let z = unset (given1 (h .subchar)) (SubcharValue (subcharOf h)) (valuesOf SubChar ps) (held .0 .4) (a .0) in
+      subst (Asked lim h (length rows) SubChar) (sym (sub-reads (t .subchar) v (a .1))) (record { again = flag-none (isSome (h .subchar)) z; fit = refl; built = refl; ranged = refl })
 
   -- a value of a key that is not given is none
   given-not : (k : Key) → valuesOf k (reverseAux ps (pair (keyText k) v ∷ qs)) ≡ [] → ⊥
@@ -296,25 +296,25 @@ module _ (lim : Limits) (h : Head) (rows : List (List ℕ)) (ps qs : List Pair) 
       let z : length (reverseAux (valuesOf k ps) (v ∷ valuesOf k qs)) ≡ 0 = ap length (sym (values-here k v ps qs) ∙ e) in
       omega (arith, z, length-reverseAux (valuesOf k ps) (v ∷ valuesOf k qs))
 
-  sub1-asked : (o : Option ℕ) → Perhaps o (reverseAux ps (pair (keyText SubChar1) v ∷ qs)) → Asked lim h SubChar1 (valueOf SubChar1 v)
+  sub1-asked : (o : Option ℕ) → Perhaps o (reverseAux ps (pair (keyText SubChar1) v ∷ qs)) → Asked lim h (length rows) SubChar1 (valueOf SubChar1 v)
   unfolding n11 n12 n14 n15
   sub1-asked none o = absurd (given-not SubChar1 o)
   sub1-asked (some b) o =
       let a = once-here SubChar1 v (BytesValue (b ∷ [])) ps qs o in
-      let z = unset (h .sub1) (Subchar1Of (h .sub1)) (valuesOf SubChar1 ps) (held .0 .5) (a .0) in
-      subst (Asked lim h SubChar1) (sym (sub1-reads b v (a .1))) (record { again = unkept (h .sub1) z; fit = refl; built = refl; ranged = refl })
+      let z = unset (given1 (h .subchar1)) (Subchar1Of (h .subchar1)) (valuesOf SubChar1 ps) (held .0 .5) (a .0) in
+      subst (Asked lim h (length rows) SubChar1) (sym (sub1-reads b v (a .1))) (record { again = flag-none (isSome (h .subchar1)) z; fit = refl; built = refl; ranged = refl })
 
-  state-asked : (ess : List (List Column)) → length ess ≤ lim .rows → StateRows 0 ess (valuesOf State (reverseAux ps (pair (keyText State) v ∷ qs))) → Asked lim h State (valueOf State v)
+  state-asked : (ess : List (List Column)) → length ess ≤ lim .rows → StateRows 0 ess (valuesOf State (reverseAux ps (pair (keyText State) v ∷ qs))) → Asked lim h (length rows) State (valueOf State v)
   state-asked ess room s =
       let vs : List (List ℕ) = reverse (valuesOf State ps) in
       let ws : List (List ℕ) = valuesOf State qs in
       let s2 = subst (StateRows 0 ess) (values-here State v ps qs ∙ reverseAux-eq (valuesOf State ps) (v ∷ ws)) s in
       let r = row-at 0 ess vs ws v s2 in
-      let n : 0 + length vs ≡ h .rows = omega (arith, rows-long 0 (held .1 .entries) vs (held .1 .states), held .1 .counted) in
-      row-asked lim h (r .0) v (subst (λ (x : ℕ). StateRow x (r .0) v) n (r .1)) (omega (arith, n, rows-long 0 ess (vs ++ (v ∷ ws)) s2, length-append vs (v ∷ ws)))
+      let n : 0 + length vs ≡ length rows = omega (arith, rows-long 0 (held .1 .entries) vs (held .1 .states), held .1 .counted) in
+      row-asked lim h (length rows) (r .0) v (subst (λ (x : ℕ). StateRow x (r .0) v) n (r .1)) (omega (arith, n, rows-long 0 ess (vs ++ (v ∷ ws)) s2, length-append vs (v ∷ ws)))
 
   -- whatever the key
-  pub key-asked : (w : List ℕ) (k : Key) → KeyMeans w k → (y : HeaderSays (reverseAux ps (pair w v ∷ qs)) t) → length (y .entries) ≤ lim .rows → Asked lim h k (valueOf k v)
+  pub key-asked : (w : List ℕ) (k : Key) → KeyMeans w k → (y : HeaderSays (reverseAux ps (pair w v ∷ qs)) t) → length (y .entries) ≤ lim .rows → Asked lim h (length rows) k (valueOf k v)
   unfolding n11 n12 n14 n15 valueOf
   key-asked w CodeSetName m y room = name-asked (subst (λ (x : List ℕ). Once CodeSetName NameValue (reverseAux ps (pair x v ∷ qs))) m (y .name))
   key-asked w CurMin m y room = min-asked (subst (λ (x : List ℕ). Once CurMin (SizeValue (t .min)) (reverseAux ps (pair x v ∷ qs))) m (y .min))
@@ -351,36 +351,37 @@ one-class v p q =
     let k : _≡_ {A = ℕ} 1 2 = cc in
     omega arith
 
-class-one : (c : ℕ) (v : List ℕ) → Quoted (ascii "SBCS") v → ClassOf c v → c ≡ 1
+class-one : (c : Option ConvClasses) (v : List ℕ) → Quoted (ascii "SBCS") v → ClassOf c v → c ≡ some sbcs
 class-one c v q (inl (e, p)) = e
 class-one c v q (inr (e, p)) = absurd (one-class v q p)
 
-module _ (h : Head) (rows : List (List ℕ)) (ps : List Pair) (t : Table) (held : Ordered h rows ps) (y : HeaderSays ps t) where
-  row-present : pick (eqb (h .class) 1) false (eqb (h .rows) 0) ≡ false
+module _ (h : Keys) (rows : List (List Cell)) (ps : List Pair) (t : Table) (held : Ordered h rows ps) (y : HeaderSays ps t) where
+  row-present : pick (isSbcs (h .class)) false (eqb (length rows) 0) ≡ false
   row-present = by-rows (y .rows)
     where
-      by-rows : RowsAre (y .class) (y .entries) (t .rows) → pick (eqb (h .class) 1) false (eqb (h .rows) 0) ≡ false
+      by-rows : RowsAre (y .class) (y .entries) (t .rows) → pick (isSbcs (h .class)) false (eqb (length rows) 0) ≡ false
       by-rows (inl (one, e)) =
           let a = rows-long 0 (held .1 .entries) (valuesOf State ps) (held .1 .states) in
           let b = rows-long 0 (y .entries) (valuesOf State ps) (y .states) in
           let c = held .1 .counted in
-          rw (ne-eqb (h .rows) 0 (λ z. omega arith)) (pick-false (eqb (h .class) 1))
+          rw (ne-eqb (length rows) 0 (λ z. omega arith)) (pick-false (isSbcs (h .class)))
       by-rows (inr (e, w, x)) =
           let o = y .quoted in
-          let c = given-once (h .class) (ClassOf (h .class)) (valuesOf ConvClass ps) (held .0 .3) (present (h .class) (ClassOf (h .class)) (valuesOf ConvClass ps) (o .0) (held .0 .3) (o .1)) in
+          let c = given-once (given1 (h .class)) (ClassOf (h .class)) (valuesOf ConvClass ps) (held .0 .3) (present (given1 (h .class)) (ClassOf (h .class)) (valuesOf ConvClass ps) (o .0) (held .0 .3) (o .1)) in
           let q : Quoted (ascii "SBCS") (c .0) = subst (λ (z : List ℕ). Quoted z (c .0)) w (subst (Quoted (y .class)) (same-value (valuesOf ConvClass ps) (o .0) (c .0) (o .1) (c .1)) (o .2)) in
           rw (class-one (h .class) (c .0) q (c .2))
 
-  pub nothing-absent : n13 h ≡ false
+  pub nothing-absent : n13 h (length rows) ≡ false
   unfolding n13
   nothing-absent =
       let s = held .0 in
       chain (h .name) _ (flag-set (h .name) (present (flag (h .name)) NameValue (valuesOf CodeSetName ps) (y .name .0) (s .0) (y .name .1)))
-      (chain (ltb 0 (h .min)) _ (lt-ltb 0 (h .min) (present (h .min) (SizeValue (h .min)) (valuesOf CurMin ps) (y .min .0) (s .1) (y .min .1)))
-      (chain (ltb 0 (h .max)) _ (lt-ltb 0 (h .max) (present (h .max) (SizeValue (h .max)) (valuesOf CurMax ps) (y .max .0) (s .2) (y .max .1)))
-      (chain (ltb 0 (h .class)) _ (lt-ltb 0 (h .class) (present (h .class) (ClassOf (h .class)) (valuesOf ConvClass ps) (y .quoted .0) (s .3) (y .quoted .1)))
-      (chain (ltb 0 (h .sub .len)) _
-      (lt-ltb 0 (h .sub .len) (present (h .sub .len) (SubcharValue (bytesOf (h .sub))) (valuesOf SubChar ps) (y .subchar .0) (s .4) (y .subchar .1)))
+      (chain (isSome (h .min)) _ (flag-set (isSome (h .min)) (present (given1 (h .min)) (SizeValue (minOf h)) (valuesOf CurMin ps) (y .min .0) (s .1) (y .min .1)))
+      (chain (isSome (h .max)) _ (flag-set (isSome (h .max)) (present (given1 (h .max)) (SizeValue (maxOf h)) (valuesOf CurMax ps) (y .max .0) (s .2) (y .max .1)))
+      (chain (isSome (h .class)) _
+      (flag-set (isSome (h .class)) (present (given1 (h .class)) (ClassOf (h .class)) (valuesOf ConvClass ps) (y .quoted .0) (s .3) (y .quoted .1)))
+      (chain (isSome (h .subchar)) _
+      (flag-set (isSome (h .subchar)) (present (given1 (h .subchar)) (SubcharValue (subcharOf h)) (valuesOf SubChar ps) (y .subchar .0) (s .4) (y .subchar .1)))
       row-present))))
 
 -- ## One header says one table
@@ -425,7 +426,7 @@ one-entries n (x ∷ a) (y ∷ b) (v ∷ vs) s r =
     let f = one-entries (n + 1) a b vs (s .1) (r .1) in
     λ i. e i ∷ f i
 
-one-rows : (a b : List (List Column)) (c d : List ℕ) (rows other : List (List ℕ)) → a ≡ b → RowsAre c a rows → RowsAre d b other → rows ≡ other
+one-rows : (a b : List (List Column)) (c d : List ℕ) (rows other : List (List Cell)) → a ≡ b → RowsAre c a rows → RowsAre d b other → rows ≡ other
 one-rows a b c d rows other e (inl (one, r)) (inl (two, s)) = r ∙ ap (map rowOf) e ∙ sym s
 one-rows a b c d rows other e (inl (one, r)) (inr (z, w, s)) = absurd (let n : length a ≡ 0 = ap length (e ∙ z) in omega arith)
 one-rows a b c d rows other e (inr (z, w, r)) (inl (two, s)) = absurd (let n : length b ≡ 0 = ap length (sym e ∙ z) in omega arith)

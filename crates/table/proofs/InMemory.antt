@@ -1,7 +1,7 @@
 -- The table that a memory in a table's form holds: the same rows, header numbers and lines, so the same look-ups.
 use mathlib.Core.Path.{_≡_, refl, sym, ap, _∙_, subst}
 use mathlib.Core.Bool.{Bool, true, false}
-use mathlib.Core.List.{List, [], _∷_, _++_, map, append-assoc}
+use mathlib.Core.List.{List, [], _∷_, _++_, map, append-assoc, map-append}
 use Prim.Native.Nat.{ℕ, _-_}
 use lib.Dec.{eqb}
 use lib.ListN.{length, take, drop, replicate, take-append-drop}
@@ -13,13 +13,16 @@ use Rattle.lists.proofs.Laws.{clash, both, both-left, both-right}
 use Rattle.lists.proofs.Chains.{bar-first, bar-rest}
 use Rattle.lists.proofs.Order.{all-in, all-both, map-in, in-map, sort-in, in-sort, first-same}
 use Rattle.lists.proofs.Pairs.{pairs-one}
-use Rattle.table.specs.Limits.{limits}
+use Rattle.table.specs.Limits.{Limits, needed}
+use Rattle.table.specs.Cells.{Cell, cellIn}
 use Rattle.table.specs.Codes.{bytesOf}
 use Rattle.table.specs.Meaning.{Line, Table, flat, same, isRead, isWritten, reader, writer}
 use Rattle.table.specs.Rules.{anyOf, sharesBytes, sharesPoint, t9, Keeps}
 use Rattle.table.specs.Entry.{entryOf, lineIn, less}
-use Rattle.table.specs.Memory.{sorted, filled, sub1In, recordOf, pieces, tableIn, Form, Proper}
+use Rattle.table.specs.Slices.{Slices}
+use Rattle.table.specs.Memory.{sorted, filled, numbersOf, sub1In, recordOf, pieces, tableIn, Form, Proper, linesIn}
 use Rattle.table.specs.declared.valid.Record.{Record}
+use Rattle.table.proofs.CellLaws.{cells-back}
 use Rattle.table.proofs.Packing.{unpack}
 use Rattle.table.proofs.Every.{none-of}
 use Rattle.table.specs.Progress.{GoodLine}
@@ -27,20 +30,24 @@ use Rattle.table.proofs.LineLaws.{line-entry, keeps-good, form-held, sa
 use Rattle.table.proofs.ValidLaws.{SameTable, sub-length, back-sub1}
 
 -- rows put one behind the other, and cut again
-pieces-flat : (rows : List (List ℕ)) (rest : List ℕ) → All (λ r. length r ≡ 256) rows → pieces (length rows) (flat rows ++ rest) ≡ rows
+pieces-flat : (rows : List (List Cell)) (rest : List Cell) → All (λ r. length r ≡ 256) rows → pieces (length rows) (flat rows ++ rest) ≡ rows
 unfolding pieces flat
 pieces-flat [] rest h = refl
 pieces-flat (r ∷ rows) rest h =
     let e : (r ++ flat rows) ++ rest ≡ r ++ (flat rows ++ rest) = append-assoc r (flat rows) rest in
     (λ i. take 256 (e i) ∷ pieces (length rows) (drop 256 (e i)))
     ∙ (λ i. take-at r (flat rows ++ rest) 256 (h .0) i ∷ pieces (length rows) (drop-at r (flat rows ++ rest) 256 (h .0) i))
-    ∙ ap (λ (l : List (List ℕ)). r ∷ l) (pieces-flat rows rest (h .1))
+    ∙ ap (λ (l : List (List Cell)). r ∷ l) (pieces-flat rows rest (h .1))
 
-pieces-filled : (limit : ℕ) (rows : List (List ℕ)) (l : List ℕ) → All (λ r. length r ≡ 256) rows → take limit l ≡ filled limit (flat rows) → pieces (length rows) l ≡ rows
+pieces-filled : (limit : ℕ) (rows : List (List Cell)) (l : List ℕ) → All (λ r. length r ≡ 256) rows → take limit l ≡ filled limit (numbersOf rows) → pieces (length rows) (map cellIn l) ≡ rows
 unfolding filled
 pieces-filled limit rows l h e =
-    ap (pieces (length rows)) (sym (take-append-drop limit l) ∙ ap (λ (x : List ℕ). x ++ drop limit l) e ∙ append-assoc (flat rows) (replicate (limit - length (flat rows)) 0) (drop limit l))
-    ∙ pieces-flat rows (replicate (limit - length (flat rows)) 0 ++ drop limit l) h
+    let rest : List ℕ = replicate (limit - length (numbersOf rows)) 0 ++ drop limit l in
+    let whole : l ≡ numbersOf rows ++ rest =
+    sym (take-append-drop limit l) ∙ ap (λ (x : List ℕ). x ++ drop limit l) e ∙ append-assoc (numbersOf rows) (replicate (limit - length (numbersOf rows)) 0) (drop limit l) in
+    let cells : map cellIn l ≡ flat rows ++ map cellIn rest =
+    ap (map cellIn) whole ∙ map-append cellIn (numbersOf rows) rest ∙ ap (λ (x : List Cell). x ++ map cellIn rest) (cells-back (flat rows)) in
+    ap (pieces (length rows)) cells ∙ pieces-flat rows (map cellIn rest) h
 
 -- lines stored and taken out again
 stored-there : (ls : List Line) → All GoodLine ls → (l : Line) → In l (map lineIn (sorted ls)) → In l ls
@@ -55,35 +62,35 @@ stored-back ls gs l i =
     (map-in lineIn (entryOf l) (sorted ls) (in-sort less (entryOf l) (map entryOf ls) (map-in entryOf l ls i)))
 
 -- a memory in the form of t holds a table of the same meaning
-module _ (t : Table) (p : Proper t) (k : Keeps limits t) (rec : Record) (states codes infos order : List ℕ) (f : Form limits t rec states codes infos order) where
+module _ (lim : Limits) (t : Table) (p : Proper t) (k : Keeps lim t) (rec : Record) (m : Slices) (f : Form lim t rec m) where
   good : All GoodLine (t .lines)
-  good = keeps-good limits t p k
+  good = keeps-good lim t p k
 
-  lines-are : tableIn rec states codes infos .lines ≡ map lineIn (sorted (t .lines))
-  unfolding tableIn
-  lines-are = ap (map lineIn) (form-held t p k rec states codes infos order f)
+  lines-are : tableIn rec m .lines ≡ map lineIn (sorted (t .lines))
+  unfolding tableIn linesIn
+  lines-are = ap (map lineIn) (form-held lim t p k rec m f)
 
-  rows-are : tableIn rec states codes infos .rows ≡ t .rows
+  rows-are : tableIn rec m .rows ≡ t .rows
   unfolding tableIn recordOf
-  rows-are = ap (λ (r : Record). pieces (r .rows) states) (f .record-is) ∙ pieces-filled 4096 (t .rows) states (p .rows-full) (f .states-are)
+  rows-are = ap (λ (r : Record). pieces (r .rows) (map cellIn (m .states))) (f .record-is) ∙ pieces-filled (needed lim) (t .rows) (m .states) (p .rows-full) (f .states-are)
 
-  min-is : tableIn rec states codes infos .min ≡ t .min
+  min-is : tableIn rec m .min ≡ t .min
   unfolding tableIn recordOf
   min-is = ap (λ (r : Record). r .min) (f .record-is)
 
-  max-is : tableIn rec states codes infos .max ≡ t .max
+  max-is : tableIn rec m .max ≡ t .max
   unfolding tableIn recordOf
   max-is = ap (λ (r : Record). r .max) (f .record-is)
 
-  subchar-is : tableIn rec states codes infos .subchar ≡ t .subchar
+  subchar-is : tableIn rec m .subchar ≡ t .subchar
   unfolding tableIn recordOf
-  subchar-is = ap (λ (r : Record). bytesOf (r .subchar)) (f .record-is) ∙ unpack (t .subchar) (p .sub-bytes) (sub-length t p k rec states codes infos order f .1)
+  subchar-is = ap (λ (r : Record). bytesOf (r .subchar)) (f .record-is) ∙ unpack (t .subchar) (p .sub-bytes) (sub-length lim t p k rec m f .1)
 
-  subchar1-is : tableIn rec states codes infos .subchar1 ≡ t .subchar1
+  subchar1-is : tableIn rec m .subchar1 ≡ t .subchar1
   unfolding tableIn recordOf
   subchar1-is = ap (λ (r : Record). sub1In (r .subchar1)) (f .record-is) ∙ back-sub1 (t .subchar1)
 
-  pub held-same : SameTable (tableIn rec states codes infos) t
+  pub held-same : SameTable (tableIn rec m) t
   held-same = record {
     same-rows = rows-are;
     same-min = min-is;

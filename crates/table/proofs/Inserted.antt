@@ -9,7 +9,7 @@ use native.Mathlib.Nat.{sub-self}
 use native.Mathlib.Omega.{arith}
 use lib.ListN.{length, getD, take, drop, set, length-map}
 use lib.Seq.{take-suc, set-at, getD-at, getD-take, take-suc-set, drop-set-lt, set-split, append-snoc, take-take, take-at, drop-at, drop-drop, length-take-le}
-use lib.Dec.{leb, lit<}
+use lib.Dec.{leb}
 use borrow.Author.Tests.{le-leb, lt-leb, leb-true, leb-false}
 use Rattle.lists.specs.Order.{All, Rising, lead, insert, Comparable, sort}
 use Rattle.lists.proofs.Front.{drop-take}
@@ -23,7 +23,7 @@ use Rattle.table.specs.Valid.{Kept}
 use Rattle.table.specs.Search.{shiftIn, bump, placeIn, pointPlaceIn, picked, Ready, readTaken, writeTaken}
 use Rattle.table.proofs.EntryLaws.{less-trans, less-apart, point-apart, read-sym, write-sym, apart-differ}
 use Rattle.table.proofs.Sorted.{form-store, entries-back, fill-put, filled-long, entries-length, entries-codes, entries-infos, all-nth, index-trans, order-rising, order-length, order-in, order-unique}
-use Rattle.table.proofs.StoreLaws.{bits-count, infos-count, order-count, order-held, held-is, held-rising, free-apart, ok-few, ok-codes, ok-infos}
+use Rattle.table.proofs.StoreLaws.{bits-count, infos-count, order-count, order-held, held-is, held-rising, free-apart, ok-codes, ok-infos}
 
 -- one turn: the carried element is stored at i, and the one that stood there is carried on
 pub shift-step : (n i c : ℕ) (l : List ℕ) → i < n → n < length l → shiftIn n i c l ≡ shiftIn n (i + 1) (getD l i 0) (set l i c)
@@ -228,14 +228,14 @@ module _ (n : ℕ) (codes infos order : List ℕ) (e : Entry) (r : Ready n codes
   unfolding indexLess
   look-rising = subst (λ (l : List Entry). Rising pointLess l) (sym look-is) (map-pairs (nth held) (λ a b. pointLess a b ≡ true) (orderOf held) (order-rising held (r .rising)))
 
-  pub place-needs : (length (take n codes) ≡ length (take n infos)) × (length (take n codes) < 4096) × Rising less held
-  place-needs = (clen ∙ sym ilen, omega (arith, clen, r .small), r .rising)
+  pub place-needs : (length (take n codes) ≡ length (take n infos)) × Rising less held
+  place-needs = (clen ∙ sym ilen, r .rising)
 
-  pub point-needs : (length (take n codes) ≡ length (take n infos)) × (length (take n order) < 4096) × All (λ k. k < length (take n codes)) (take n order) × Rising pointLess look
-  point-needs = (clen ∙ sym ilen, omega (arith, olen, r .small), all-map (λ k (q : k < n). let a : k < length (take n codes) = omega (arith, clen) in a) (take n order) order-small, look-rising)
+  pub point-needs : (length (take n codes) ≡ length (take n infos)) × All (λ k. k < length (take n codes)) (take n order) × Rising pointLess look
+  point-needs = (clen ∙ sym ilen, all-map (λ k (q : k < n). let a : k < length (take n codes) = omega (arith, clen) in a) (take n order) order-small, look-rising)
 
-  pub renumber-needs : (n ≤ length order) × (n < 4096) × All (λ k. k < n) (take n order)
-  renumber-needs = (omega (arith, r .order-room), r .small, order-small)
+  pub renumber-needs : n < 4294967296 → (n ≤ length order) × (n < 4294967296) × All (λ k. k < n) (take n order)
+  renumber-needs small = (omega (arith, r .order-room), small, order-small)
 
   pub codes-done : (p : ℕ) → p ≤ n → p ≡ placeIn e held → shiftIn n p (e .bits) codes ≡ map bitsOf (insert less e held) ++ drop (n + 1) codes
   codes-done p h q = rw (insert-lead less e held, ← q, map-put bitsOf, held-codes) (shift-put n (e .bits) p codes h)
@@ -256,13 +256,12 @@ module _ (n : ℕ) (codes infos order : List ℕ) (e : Entry) (r : Ready n codes
       shift-put n p z m h ∙ ap (λ (x : List ℕ). put z p x ++ drop (n + 1) m) tk ∙ (λ t. k t ++ dr t)
 
 -- a memory that passes is ready for an entry that keeps T9 with all others
-module _ (limit n : ℕ) (codes infos order : List ℕ) (k : Kept limit n codes infos order) (e : Entry) (room : n < limit) (small : limit < 4096) (apart : All (Apart e) (k .es)) where
+module _ (limit n : ℕ) (codes infos order : List ℕ) (k : Kept limit n codes infos order) (e : Entry) (room : n < limit) (apart : All (Apart e) (k .es)) where
   pub kept-ready : Ready n codes infos order e
   kept-ready = record {
     codes-room = omega (arith, filled-long limit codes (map bitsOf (k .es)) (omega (arith, (bits-count limit n codes infos order k))) (k .stored .codes-are));
     infos-room = omega (arith, filled-long limit infos (map infoOf (k .es)) (omega (arith, (infos-count limit n codes infos order k))) (k .stored .infos-are));
     order-room = omega (arith, filled-long limit order (orderOf (k .es)) (omega (arith, (order-count limit n codes infos order k))) (k .stored .order-is));
-    small = omega arith;
     rising = held-rising limit n codes infos order k;
     ordered-is = (order-held limit n codes infos order k) ∙ ap orderOf (sym (held-is limit n codes infos order k));
     fresh = subst (λ (l : List Entry). All (λ x. x ≡ e → ⊥) l) (sym (held-is limit n codes infos order k)) (all-map (λ x w p. apart-differ e x (w .0) (w .1) (sym p)) (k .es) apart);
@@ -290,30 +289,30 @@ module _ (limit n : ℕ) (codes infos order : List ℕ) (k : Kept limit n codes 
   })
 
 -- one more line, as the loader adds it
-module _ (n : ℕ) (codes infos order : List ℕ) (k : Kept 2048 n codes infos order) (e : Entry) where
+module _ (limit n : ℕ) (codes infos order : List ℕ) (k : Kept limit n codes infos order) (e : Entry) where
   abbrev stored-now : List Entry
   stored-now = entries (take n codes) (take n infos)
 
   -- what the look-up for a taken code requires
-  pub kept-read-needs : extraIn (e .info) < 4 → (n ≤ 2048) × (n ≤ length codes) × (n ≤ length infos) × Rising less stored-now × (extraIn (e .info) < 4)
+  pub kept-read-needs : extraIn (e .info) < 4 → (n ≤ length codes) × (n ≤ length infos) × Rising less stored-now × (extraIn (e .info) < 4)
   kept-read-needs h =
-      let ok = form-store 2048 n codes infos order k in
-      (ok-few n codes infos order ok, ok-codes n codes infos order ok, ok-infos n codes infos order ok, held-rising 2048 n codes infos order k, h)
+      let ok = form-store limit n codes infos order k in
+      (ok-codes limit n codes infos order ok, ok-infos limit n codes infos order ok, held-rising limit n codes infos order k, h)
 
   module _ (reads-free : readTaken e stored-now ≡ false) (writes-free : writeTaken e stored-now ≡ false) where
     pub kept-apart : All (Apart e) (k .es)
-    kept-apart = subst (λ (l : List Entry). All (Apart e) l) (held-is 2048 n codes infos order k) (free-apart e stored-now reads-free writes-free)
+    kept-apart = subst (λ (l : List Entry). All (Apart e) l) (held-is limit n codes infos order k) (free-apart e stored-now reads-free writes-free)
 
-    pub free-ready : n < 2048 → Ready n codes infos order e
-    free-ready h = kept-ready 2048 n codes infos order k e h (lit< tt) kept-apart
+    pub free-ready : n < limit → Ready n codes infos order e
+    free-ready h = kept-ready limit n codes infos order k e h kept-apart
 
-    pub free-next : n < 2048 → Kept 2048 (n + 1) (map bitsOf (insert less e stored-now) ++ drop (n + 1) codes) (map infoOf (insert less e stored-now) ++ drop (n + 1) infos) (orderOf (insert less e stored-now) ++ drop (n + 1) order)
-    free-next h = kept-next 2048 n codes infos order k e h (lit< tt) kept-apart
+    pub free-next : n < limit → Kept limit (n + 1) (map bitsOf (insert less e stored-now) ++ drop (n + 1) codes) (map infoOf (insert less e stored-now) ++ drop (n + 1) infos) (orderOf (insert less e stored-now) ++ drop (n + 1) order)
+    free-next h = kept-next limit n codes infos order k e h kept-apart
 
   -- the entries that insertion leaves
   pub next-held : entries (take (n + 1) (map bitsOf (insert less e stored-now) ++ drop (n + 1) codes)) (take (n + 1) (map infoOf (insert less e stored-now) ++ drop (n + 1) infos)) ≡ insert less e stored-now
   next-held =
-      let count : length (insert less e stored-now) ≡ n + 1 = insert-length less e stored-now ∙ ap suc (ap (λ (l : List Entry). length l) (held-is 2048 n codes infos order k) ∙ k .count) ∙ sym (add-one n) in
+      let count : length (insert less e stored-now) ≡ n + 1 = insert-length less e stored-now ∙ ap suc (ap (λ (l : List Entry). length l) (held-is limit n codes infos order k) ∙ k .count) ∙ sym (add-one n) in
       (λ t. entries
       (take-at (map bitsOf (insert less e stored-now)) (drop (n + 1) codes) (n + 1) (length-map (insert less e stored-now) bitsOf ∙ count) t)
       (take-at (map infoOf (insert less e stored-now)) (drop (n + 1) infos) (n + 1) (length-map (insert less e stored-now) infoOf ∙ count) t))

@@ -1,12 +1,13 @@
 -- One line of a text, judged fine: what the lines so far have given keeps its ranges before CHARMAP, and T1 to T9 from there on.
 use Prim.Native.Nat.{ℕ, suc, _+_, _-_, _<_, _≤_}
 use mathlib.Core.Path.{_≡_, refl, ap, subst}
+use mathlib.Core.Option.{Option}
 use mathlib.Core.Bool.{Bool, true, false, not}
 use mathlib.Core.List.{List, [], _∷_, _++_}
 use native.Mathlib.Omega.{arith}
-use lib.Dec.{ltb, leb, eqb}
+use lib.Dec.{leb, eqb}
 use lib.ListN.{length, take, drop, replicate, length-append, length-replicate}
-use borrow.Author.Tests.{ltb-true, leb-true, leb-false, eqb-false, le-leb, lt-leb, not-false}
+use borrow.Author.Tests.{leb-true, leb-false, eqb-false, le-leb, lt-leb, not-false}
 use Rattle.lists.specs.Pick.{pick}
 use Rattle.lists.specs.Order.{All}
 use Rattle.lists.proofs.Laws.{both, both-left, both-right, clash}
@@ -14,25 +15,24 @@ use Rattle.lists.proofs.Cases.{pick-case}
 use Rattle.lists.proofs.Append.{all-append}
 use Rattle.lists.proofs.Chains.{chain-first, chain-rest, bar, bar-first, bar-rest}
 use Rattle.table.specs.Limits.{Limits}
-use Rattle.table.specs.States.{stepAt}
-use Rattle.table.specs.Codes.{AllByte, bytesOf}
-use Rattle.table.specs.Meaning.{Line, Table, flat}
+use Rattle.table.specs.Cells.{Cell, ends}
+use Rattle.table.specs.Codes.{AllByte}
+use Rattle.table.specs.Meaning.{Line, Table, flat, stepsOn}
 use Rattle.table.specs.Rules.{allOf, anyOf, t1Rows, t2, t3, t4Sub, t4Sub1, t5, t6, t7, t8, t9, sharesBytes, sharesPoint, Keeps}
-use Rattle.table.specs.Memory.{known, sub1In, sub1Of, Proper, ProperLine}
+use Rattle.table.specs.Memory.{sub1Of, Proper, ProperLine}
+use Rattle.table.specs.Keys.{Keys, isSome, isSbcs, orElse, minOf, maxOf, subcharOf}
 use Rattle.table.specs.Text.{skipAt, endsAt, byteOf, isCharmap, contentEnd}
 use Rattle.table.specs.Row.{columnsOf, rowOf}
-use Rattle.table.specs.Header.{keyLine, keyedLine, keyEnd, keyOf, lineAt, lineOf}
+use Rattle.table.specs.Header.{InRange, isRow, keyLine, keyedLine, keyEnd, keyOf, lineAt, lineOf}
 use Rattle.table.specs.Mapping.{Form, noForm, reserved, blank, ending, mapping, mappedOf, lastOf}
 use Rattle.table.specs.Numbers.{lowest, n13, n15, rowOver, n16, n20, n21, n22, n23, n24, n25, n26, rowsAt, keyConditions, charmapConditions, mappingConditions}
-use Rattle.table.specs.Load.{Reading, went, stop, judged, keep, keepRow, headAt, lineAs, headerStep, mappingStep, lastStep, phaseStep, stepOf}
+use Rattle.table.specs.Load.{Reading, went, stop, judged, keep, keepRow, lineAs, headerAsks, mappingAsks, lastAsks, phaseAsks, lineAsks, stepOf}
 use Rattle.table.specs.FirstLine.{NoneHolds}
 use Rattle.table.specs.declared.text.Place.{Place}
 use Rattle.table.specs.declared.text.Place.the-variants.{At, No}
-use Rattle.table.specs.declared.states.Code.{Code}
 use Rattle.table.specs.declared.header.Key.{Key}
 use Rattle.table.specs.declared.header.Value.{Value}
 use Rattle.table.specs.declared.header.Value.the-variants.{Unfit, Any, Name, Min, Max, Class, Sub, Sub1, Row, Later}
-use Rattle.table.specs.declared.header.Head.{Head}
 use Rattle.table.specs.declared.header.Line.{Line as HeaderLine}
 use Rattle.table.specs.declared.header.Line.the-variants as header
 use Rattle.table.specs.declared.load.Refusal.{Refusal}
@@ -41,17 +41,15 @@ use Rattle.table.specs.declared.load.Verdict.the-variants.{Fine, Refuse}
 use Rattle.table.specs.declared.load.Phase.{Phase}
 use Rattle.table.specs.declared.load.Phase.the-variants.{Header, Mappings, Ended}
 use Rattle.table.proofs.Packing.{unpacked-bytes}
-use Rattle.table.proofs.Every.{every-flat, every-replicate}
-use Rattle.table.specs.Header.{InRange}
-use Rattle.table.proofs.HeaderLaws.{value-ranges, row-length, row-known}
+use Rattle.table.proofs.HeaderLaws.{value-ranges, row-length}
 use Rattle.table.proofs.MappingLaws.{form-bytes}
 use Rattle.table.proofs.LowestLaws.{lowest-fine}
 
 -- a line's outcome
-pub stop-went : (x : Refusal) (r : Reading) → stop x ≡ went r → ⊥
+stop-went : (x : Refusal) (r : Reading) → stop x ≡ went r → ⊥
 stop-went x r e = let z : _≡_ {A = ℕ} 0 1 = cc in omega arith
 
-pub went-same : (r s : Reading) → went r ≡ went s → r ≡ s
+went-same : (r s : Reading) → went r ≡ went s → r ≡ s
 went-same r s e = cc
 
 pub judged-went : (v : Verdict) (r s : Reading) → judged v r ≡ went s → (v ≡ Fine) × (r ≡ s)
@@ -87,115 +85,105 @@ line-range s =
     p : ℕ
     p = skipAt s 0
 
--- what the header's lines have given: rows counted, full, known and within the limit, sizes of at most 4, bytes that are bytes
-pub record HeadFits (limit count max : ℕ) (sub : Code) (sub1 : ℕ) (rows : List (List ℕ)) : Type 0 where
-  pub counted : count ≡ length rows
+-- what the header's lines have given: rows full and within the limit, sizes of at most 4, bytes that are bytes
+pub record HeadFits (limit : ℕ) (min : Option ℕ) (max : ℕ) (sub : List ℕ) (sub1 : Option ℕ) (rows : List (List Cell)) : Type 0 where
+  pub least : isSome min ≡ true → 1 ≤ orElse 0 min
   pub room : length rows ≤ limit
   pub most : max ≤ 4
   pub full : All (λ r. length r ≡ 256) rows
-  pub entries : All (λ r. allOf known r ≡ true) rows
-  pub bytes : AllByte (bytesOf sub)
-  pub byte : sub1 < 257
+  pub bytes : AllByte sub
+  pub byte : sub1Of sub1 < 257
 
-abbrev pub Fits : Limits → Head → List (List ℕ) → Type 0
-Fits lim h rows = HeadFits (lim .rows) (h .rows) (h .max) (h .sub) (h .sub1) rows
+abbrev pub Fits : Limits → Keys → List (List Cell) → Type 0
+Fits lim h rows = HeadFits (lim .rows) (h .min) (maxOf h) (subcharOf h) (h .subchar1) rows
 
-row-fits : (lim : Limits) (h : Head) (rows : List (List ℕ)) (v : List ℕ) (o : Bool) → rowOver lim (h .rows) o ≡ false → Fits lim h rows
-    → HeadFits (lim .rows) (h .rows + 1) (h .max) (h .sub) (h .sub1) (rows ++ (rowOf (columnsOf v) ∷ []))
+row-fits : (lim : Limits) (h : Keys) (rows : List (List Cell)) (v : List ℕ) (o : Bool) → rowOver lim (length rows) o ≡ false → Fits lim h rows
+    → Fits lim h (rows ++ (rowOf (columnsOf v) ∷ []))
 unfolding rowOver
 row-fits lim h rows v true e f = absurd (clash refl e)
 row-fits lim h rows v false e f =
-    let n = leb-false (lim .rows) (h .rows) e in
-    let c = f .counted in
+    let n = leb-false (lim .rows) (length rows) e in
     let l : length (rows ++ (rowOf (columnsOf v) ∷ [])) ≡ length rows + 1 = length-append rows (rowOf (columnsOf v) ∷ []) in
     record {
-      counted = omega arith;
+      least = f .least;
       room = omega arith;
       most = f .most;
       full = all-append (λ r. length r ≡ 256) rows (rowOf (columnsOf v) ∷ []) (f .full) (row-length v, tt);
-      entries = all-append (λ r. allOf known r ≡ true) rows (rowOf (columnsOf v) ∷ []) (f .entries) (row-known v, tt);
       bytes = f .bytes;
       byte = f .byte;
     }
 
-keep-fits : (lim : Limits) (h : Head) (rows : List (List ℕ)) (v : List ℕ) (x : Value) → InRange x → n15 lim (h .rows) x ≡ false → Fits lim h rows → Fits lim (keep h x) (keepRow x v rows)
-unfolding InRange n15 keep keepRow
+keep-fits : (lim : Limits) (h : Keys) (rows : List (List Cell)) (v : List ℕ) (x : Value) → InRange x → n15 lim (length rows) x ≡ false → Fits lim h rows → Fits lim (keep h x) (keepRow x v rows)
+unfolding InRange n15 keep keepRow isRow
 keep-fits lim h rows v Unfit i e f = f
 keep-fits lim h rows v Any i e f = f
 keep-fits lim h rows v Later i e f = f
 keep-fits lim h rows v Name i e f = f
-keep-fits lim h rows v (Min d) i e f = f
+keep-fits lim h rows v (Min d) i e f =
+    record { least = λ _. i .0; room = f .room; most = f .most; full = f .full; bytes = f .bytes; byte = f .byte }
 keep-fits lim h rows v (Max d) i e f =
-    record { counted = f .counted; room = f .room; most = i .1; full = f .full; entries = f .entries; bytes = f .bytes; byte = f .byte }
+    record { least = f .least; room = f .room; most = i .1; full = f .full; bytes = f .bytes; byte = f .byte }
 keep-fits lim h rows v (Class c) i e f = f
 keep-fits lim h rows v (Sub b n) i e f =
-    record { counted = f .counted; room = f .room; most = f .most; full = f .full; entries = f .entries; bytes = unpacked-bytes n b (i .2); byte = f .byte }
+    record { least = f .least; room = f .room; most = f .most; full = f .full; bytes = unpacked-bytes n b (i .2); byte = f .byte }
 keep-fits lim h rows v (Sub1 b) i e f =
-    record { counted = f .counted; room = f .room; most = f .most; full = f .full; entries = f .entries; bytes = f .bytes; byte = omega arith }
+    record { least = f .least; room = f .room; most = f .most; full = f .full; bytes = f .bytes; byte = omega arith }
 keep-fits lim h rows v (Row w l o) i e f = row-fits lim h rows v o e f
 
 -- the table of what was read
-abbrev pub tableWith : Head → List (List ℕ) → List Line → Table
-tableWith h rows ls = record { rows = rows; lines = ls; min = h .min; max = h .max; subchar = bytesOf (h .sub); subchar1 = sub1In (h .sub1) }
+abbrev pub tableWith : Keys → List (List Cell) → List Line → Table
+tableWith h rows ls = record { rows = rows; lines = ls; min = minOf h; max = maxOf h; subchar = subcharOf h; subchar1 = h .subchar1 }
 
 -- a table as a text can give it, that keeps the rules where the limit allows a row
 abbrev pub Sound : Limits → Table → Type 0
 Sound lim t = Proper t × (1 ≤ lim .rows → Keeps lim t)
 
 -- the rows at CHARMAP
-rows-proper : (h : Head) (rows : List (List ℕ)) → All (λ r. length r ≡ 256) rows → All (λ r. allOf known r ≡ true) rows
-    → All (λ r. length r ≡ 256) (rowsAt h rows) × All (λ r. allOf known r ≡ true) (rowsAt h rows)
+rows-full : (h : Keys) (rows : List (List Cell)) → All (λ r. length r ≡ 256) rows → All (λ r. length r ≡ 256) (rowsAt h rows)
 unfolding rowsAt
-rows-proper h rows f k =
-    pick-case P (eqb (h .class) 1) _ _
-    (λ _. pick-case P (eqb (h .rows) 0) _ _ (λ _. ((length-replicate {A = ℕ} 256 1, tt), (every-replicate known 256 1 refl, tt))) (λ _. (f, k)))
-    (λ _. (f, k))
-  where
-    P : List (List ℕ) → Type 0
-    P l = All (λ r. length r ≡ 256) l × All (λ r. allOf known r ≡ true) l
+rows-full h rows f =
+    pick-case (All (λ r. length r ≡ 256)) (isSbcs (h .class)) _ _
+    (λ _. pick-case (All (λ r. length r ≡ 256)) (eqb (length rows) 0) _ _ (λ _. (length-replicate {A = Cell} 256 ends, tt)) (λ _. f))
+    (λ _. f)
 
-rows-by : (lim : Limits) (count : ℕ) (x : List ℕ) (rows : List (List ℕ)) (a b : Bool) → eqb count 0 ≡ b → pick a false b ≡ false → 1 ≤ lim .rows → count ≡ length rows → length rows ≤ lim .rows
+rows-kept : (lim : Limits) (x : List Cell) (rows : List (List Cell)) (a b : Bool) → eqb (length rows) 0 ≡ b → pick a false b ≡ false → 1 ≤ lim .rows → length rows ≤ lim .rows
     → t1Rows lim (length (pick a (pick b (x ∷ []) rows) rows)) ≡ true
-rows-by lim count x rows true true e h one c r = le-leb 1 (lim .rows) one
-rows-by lim count x rows true false e h one c r =
-    let n = eqb-false count 0 e in
+rows-kept lim x rows true true e h one r = le-leb 1 (lim .rows) one
+rows-kept lim x rows true false e h one r =
+    let n = eqb-false (length rows) 0 e in
     both (leb 1 (length rows)) (leb (length rows) (lim .rows)) (le-leb 1 (length rows) (omega arith)) (le-leb (length rows) (lim .rows) r)
-rows-by lim count x rows false true e h one c r = absurd (clash refl h)
-rows-by lim count x rows false false e h one c r =
-    let n = eqb-false count 0 e in
+rows-kept lim x rows false true e h one r = absurd (clash refl h)
+rows-kept lim x rows false false e h one r =
+    let n = eqb-false (length rows) 0 e in
     both (leb 1 (length rows)) (leb (length rows) (lim .rows)) (le-leb 1 (length rows) (omega arith)) (le-leb (length rows) (lim .rows) r)
-
-sub1-small : (n : ℕ) → n < 257 → sub1Of (sub1In n) < 257
-sub1-small n h = pick-case (λ o. sub1Of o < 257) (eqb n 0) _ _ (λ _. omega arith) (λ _. omega arith)
 
 -- the header passes CHARMAP
-charmap-proper : (lim : Limits) (h : Head) (rows : List (List ℕ)) → Fits lim h rows → Proper (tableWith (headAt h (rowsAt h rows)) (rowsAt h rows) [])
+charmap-proper : (lim : Limits) (h : Keys) (rows : List (List Cell)) → Fits lim h rows → Proper (tableWith h (rowsAt h rows) [])
 charmap-proper lim h rows f =
-    let p = rows-proper h rows (f .full) (f .entries) in
-    record { rows-full = p .0; rows-known = every-flat known (rowsAt h rows) (p .1); lines-proper = tt; sub-bytes = f .bytes; sub1-byte = sub1-small (h .sub1) (f .byte) }
+    record { rows-full = rows-full h rows (f .full); lines-proper = tt; sub-bytes = f .bytes; sub1-byte = f .byte }
 
-charmap-keeps : (lim : Limits) (h : Head) (rows : List (List ℕ)) → Fits lim h rows → n13 h ≡ false → n16 h (rowsAt h rows) ≡ false → 1 ≤ lim .rows
-    → Keeps lim (tableWith (headAt h (rowsAt h rows)) (rowsAt h rows) [])
-unfolding n13 n16 allOf t9
+charmap-keeps : (lim : Limits) (h : Keys) (rows : List (List Cell)) → Fits lim h rows → n13 h (length rows) ≡ false → n16 h (rowsAt h rows) ≡ false → 1 ≤ lim .rows
+    → Keeps lim (tableWith h (rowsAt h rows) [])
+unfolding n13 n16 rowsAt allOf t9
 charmap-keeps lim h rows f e g one =
     let a1 = chain-rest (h .name) _ e in
-    let a2 = chain-rest (ltb 0 (h .min)) _ a1 in
-    let a3 = chain-rest (ltb 0 (h .max)) _ a2 in
-    let a4 = chain-rest (ltb 0 (h .class)) _ a3 in
-    let a5 = chain-rest (ltb 0 (h .sub .len)) _ a4 in
-    let b1 = chain-rest (leb (h .min) (h .max)) _ g in
+    let a2 = chain-rest (isSome (h .min)) _ a1 in
+    let a3 = chain-rest (isSome (h .max)) _ a2 in
+    let a4 = chain-rest (isSome (h .class)) _ a3 in
+    let a5 = chain-rest (isSome (h .subchar)) _ a4 in
+    let b1 = chain-rest (leb (minOf h) (maxOf h)) _ g in
     let b2 = chain-rest (t2 (length (rowsAt h rows)) (flat (rowsAt h rows))) _ b1 in
-    let b3 = chain-rest (t3 (stepAt (flat (rowsAt h rows))) (h .max)) _ b2 in
-    let b4 = chain-rest (t4Sub (stepAt (flat (rowsAt h rows))) (bytesOf (h .sub))) _ b3 in
+    let b3 = chain-rest (t3 (stepsOn (rowsAt h rows)) (maxOf h)) _ b2 in
+    let b4 = chain-rest (t4Sub (stepsOn (rowsAt h rows)) (subcharOf h)) _ b3 in
     record {
-      rule1-rows = unfold rowsAt in rows-by lim (h .rows) (replicate 256 1) rows (eqb (h .class) 1) (eqb (h .rows) 0) refl a5 one (f .counted) (f .room);
+      rule1-rows = rows-kept lim (replicate 256 ends) rows (isSbcs (h .class)) (eqb (length rows) 0) refl a5 one (f .room);
       rule1-lines = le-leb 0 (lim .mappings) (omega arith);
-      rule1-sizes = both (leb 1 (h .min)) _ (le-leb 1 (h .min) (ltb-true 0 (h .min) (chain-first (ltb 0 (h .min)) _ a1)))
-          (both (leb (h .min) (h .max)) (leb (h .max) 4) (chain-first (leb (h .min) (h .max)) _ g) (le-leb (h .max) 4 (f .most)));
+      rule1-sizes = both (leb 1 (minOf h)) _ (le-leb 1 (minOf h) (f .least (chain-first (isSome (h .min)) _ a1)))
+          (both (leb (minOf h) (maxOf h)) (leb (maxOf h) 4) (chain-first (leb (minOf h) (maxOf h)) _ g) (le-leb (maxOf h) 4 (f .most)));
       rule2 = chain-first (t2 (length (rowsAt h rows)) (flat (rowsAt h rows))) _ b1;
-      rule3 = chain-first (t3 (stepAt (flat (rowsAt h rows))) (h .max)) _ b2;
-      rule4-sub = chain-first (t4Sub (stepAt (flat (rowsAt h rows))) (bytesOf (h .sub))) _ b3;
-      rule4-sub1 = chain-first (t4Sub1 (stepAt (flat (rowsAt h rows))) (sub1In (h .sub1))) false b4;
+      rule3 = chain-first (t3 (stepsOn (rowsAt h rows)) (maxOf h)) _ b2;
+      rule4-sub = chain-first (t4Sub (stepsOn (rowsAt h rows)) (subcharOf h)) _ b3;
+      rule4-sub1 = chain-first (t4Sub1 (stepsOn (rowsAt h rows)) (h .subchar1)) false b4;
       rule5 = refl;
       rule6 = refl;
       rule7 = refl;
@@ -204,11 +192,11 @@ charmap-keeps lim h rows f e g one =
     }
 
 -- one mapping more
-mapping-proper : (h : Head) (rows : List (List ℕ)) (ls : List Line) (l : Line) → Proper (tableWith h rows ls) → ProperLine l → Proper (tableWith h rows (l ∷ ls))
+mapping-proper : (h : Keys) (rows : List (List Cell)) (ls : List Line) (l : Line) → Proper (tableWith h rows ls) → ProperLine l → Proper (tableWith h rows (l ∷ ls))
 mapping-proper h rows ls l p q =
-    record { rows-full = p .rows-full; rows-known = p .rows-known; lines-proper = (q, p .lines-proper); sub-bytes = p .sub-bytes; sub1-byte = p .sub1-byte }
+    record { rows-full = p .rows-full; lines-proper = (q, p .lines-proper); sub-bytes = p .sub-bytes; sub1-byte = p .sub1-byte }
 
-pub mapping-keeps : (lim : Limits) (h : Head) (rows : List (List ℕ)) (ls : List Line) (l : Line) → Keeps lim (tableWith h rows ls) → NoneHolds (mappingConditions lim h rows ls l)
+pub mapping-keeps : (lim : Limits) (h : Keys) (rows : List (List Cell)) (ls : List Line) (l : Line) → Keeps lim (tableWith h rows ls) → NoneHolds (mappingConditions lim h rows ls l)
     → Keeps lim (tableWith h rows (l ∷ ls))
 unfolding mappingConditions n20 n21 n22 n23 n24 n25 n26 allOf t9
 mapping-keeps lim h rows ls l k n =
@@ -220,15 +208,15 @@ mapping-keeps lim h rows ls l k n =
       rule3 = k .rule3;
       rule4-sub = k .rule4-sub;
       rule4-sub1 = k .rule4-sub1;
-      rule5 = both (t5 (stepAt (flat rows)) (h .min) (h .max) l) _ (not-false (t5 (stepAt (flat rows)) (h .min) (h .max) l) (n .1 .0)) (k .rule5);
+      rule5 = both (t5 (stepsOn rows) (minOf h) (maxOf h) l) _ (not-false (t5 (stepsOn rows) (minOf h) (maxOf h) l) (n .1 .0)) (k .rule5);
       rule6 = both (t6 l) _ (not-false (t6 l) (n .0)) (k .rule6);
       rule7 = both (t7 l) _ (not-false (t7 l) (n .1 .1 .0)) (k .rule7);
-      rule8 = both (t8 (sub1In (h .sub1)) l) _ (not-false (t8 (sub1In (h .sub1)) l) (n .1 .1 .1 .0)) (k .rule8);
+      rule8 = both (t8 (h .subchar1) l) _ (not-false (t8 (h .subchar1) l) (n .1 .1 .1 .0)) (k .rule8);
       rule9 = bar (anyOf (λ x. sharesBytes x l) ls) _ (n .1 .1 .1 .1 .0) (bar (anyOf (λ x. sharesPoint x l) ls) _ (n .1 .1 .1 .1 .1 .0) (k .rule9));
     }
 
 -- and one mapping less: the rules of the longer list are the conditions at its last line
-pub mapping-kept : (lim : Limits) (h : Head) (rows : List (List ℕ)) (ls : List Line) (l : Line) → Keeps lim (tableWith h rows (l ∷ ls))
+pub mapping-kept : (lim : Limits) (h : Keys) (rows : List (List Cell)) (ls : List Line) (l : Line) → Keeps lim (tableWith h rows (l ∷ ls))
     → Keeps lim (tableWith h rows ls) × NoneHolds (mappingConditions lim h rows ls l)
 unfolding mappingConditions n20 n21 n22 n23 n24 n25 n26 allOf t9
 mapping-kept lim h rows ls l k =
@@ -242,20 +230,20 @@ mapping-kept lim h rows ls l k =
         rule3 = k .rule3;
         rule4-sub = k .rule4-sub;
         rule4-sub1 = k .rule4-sub1;
-        rule5 = both-right (t5 (stepAt (flat rows)) (h .min) (h .max) l) _ (k .rule5);
+        rule5 = both-right (t5 (stepsOn rows) (minOf h) (maxOf h) l) _ (k .rule5);
         rule6 = both-right (t6 l) _ (k .rule6);
         rule7 = both-right (t7 l) _ (k .rule7);
-        rule8 = both-right (t8 (sub1In (h .sub1)) l) _ (k .rule8);
+        rule8 = both-right (t8 (h .subchar1) l) _ (k .rule8);
         rule9 = bar-rest (anyOf (λ x. sharesPoint x l) ls) _ b;
       },
       (
         ap not (both-left (t6 l) _ (k .rule6)),
         (
-          ap not (both-left (t5 (stepAt (flat rows)) (h .min) (h .max) l) _ (k .rule5)),
+          ap not (both-left (t5 (stepsOn rows) (minOf h) (maxOf h) l) _ (k .rule5)),
           (
             ap not (both-left (t7 l) _ (k .rule7)),
             (
-              ap not (both-left (t8 (sub1In (h .sub1)) l) _ (k .rule8)),
+              ap not (both-left (t8 (h .subchar1) l) _ (k .rule8)),
               (
                 bar-first (anyOf (λ x. sharesBytes x l) ls) _ (k .rule9),
                 (
@@ -270,7 +258,7 @@ mapping-kept lim h rows ls l k =
     )
 
 -- what a reading holds: ranges before CHARMAP, a sound table from there on
-abbrev pub HeldAt : Limits → Phase → Head → List (List ℕ) → List Line → Type 0
+abbrev pub HeldAt : Limits → Phase → Keys → List (List Cell) → List Line → Type 0
 HeldAt lim Header h rows ls = Fits lim h rows
 HeldAt lim Mappings h rows ls = Sound lim (tableWith h rows ls)
 HeldAt lim Ended h rows ls = Sound lim (tableWith h rows ls)
@@ -278,49 +266,42 @@ HeldAt lim Ended h rows ls = Sound lim (tableWith h rows ls)
 abbrev pub Holding : Limits → Reading → Type 0
 Holding lim r = HeldAt lim (r .phase) (r .head) (r .rows) (r .lines)
 
-header-held : (lim : Limits) (h : Head) (rows : List (List ℕ)) (s : List ℕ) (x : HeaderLine) (r : Reading) → LineRange x → Fits lim h rows → headerStep lowest lim h rows s x ≡ went r → Holding lim r
-unfolding headerStep LineRange keyConditions charmapConditions
-header-held lim h rows s header.NoForm r i f e = absurd (stop-went _ r e)
-header-held lim h rows s header.Blank r i f e = subst (Holding lim) (went-same _ r e) f
-header-held lim h rows s header.Charmap r i f e =
-    let j = judged-went (lowest (charmapConditions h rows)) _ r e in
-    let n = lowest-fine (charmapConditions h rows) (j .0) in
-    subst (Holding lim) (j .1) (charmap-proper lim h rows f, λ one. charmap-keeps lim h rows f (n .0) (n .1 .0) one)
-header-held lim h rows s (header.Known k v q x) r i f e =
-    let j = judged-went (lowest (keyConditions lim h k v)) _ r e in
-    let n = lowest-fine (keyConditions lim h k v) (j .0) in
-    subst (Holding lim) (j .1) (keep-fits lim h rows (take (x - q) (drop q s)) v i (n .1 .1 .1 .0) f)
+header-held : (lim : Limits) (h : Keys) (rows : List (List Cell)) (s : List ℕ) (x : HeaderLine) → LineRange x → Fits lim h rows
+    → NoneHolds (headerAsks lim h rows s x .conditions) → Holding lim (headerAsks lim h rows s x .behind)
+unfolding LineRange keyConditions charmapConditions
+header-held lim h rows s header.NoForm i f n = f
+header-held lim h rows s header.Blank i f n = f
+header-held lim h rows s header.Charmap i f n = (charmap-proper lim h rows f, λ one. charmap-keeps lim h rows f (n .0) (n .1 .0) one)
+header-held lim h rows s (header.Known k v q e) i f n = keep-fits lim h rows (take (e - q) (drop q s)) v i (n .1 .1 .1 .0) f
 
-mapping-held : (lim : Limits) (h : Head) (rows : List (List ℕ)) (ls : List Line) (s : List ℕ) (x : Form) (r : Reading)
-    → mappedOf s ≡ x → Sound lim (tableWith h rows ls) → mappingStep lowest lim h rows ls x ≡ went r → Holding lim r
-unfolding mappingStep
-mapping-held lim h rows ls s noForm r i f e = absurd (stop-went _ r e)
-mapping-held lim h rows ls s reserved r i f e = absurd (stop-went _ r e)
-mapping-held lim h rows ls s blank r i f e = subst (Holding lim) (went-same _ r e) f
-mapping-held lim h rows ls s ending r i f e = subst (Holding lim) (went-same _ r e) f
-mapping-held lim h rows ls s (mapping u c d) r i f e =
-    let j = judged-went (lowest (mappingConditions lim h rows ls (lineAs u c d))) _ r e in
-    let n = lowest-fine (mappingConditions lim h rows ls (lineAs u c d)) (j .0) in
-    let b = form-bytes s u c d i in
-    subst (Holding lim) (j .1) (
+mapping-held : (lim : Limits) (h : Keys) (rows : List (List Cell)) (ls : List Line) (s : List ℕ) (x : Form) → mappedOf s ≡ x
+    → Sound lim (tableWith h rows ls) → NoneHolds (mappingAsks lim h rows ls x .conditions) → Holding lim (mappingAsks lim h rows ls x .behind)
+mapping-held lim h rows ls s noForm i f n = f
+mapping-held lim h rows ls s reserved i f n = f
+mapping-held lim h rows ls s blank i f n = f
+mapping-held lim h rows ls s ending i f n = f
+mapping-held lim h rows ls s (mapping u c d) i f n =
+    let b = form-bytes s u c d i in (
       mapping-proper h rows ls (lineAs u c d) (f .0) (record { bytes = b .0; digit = omega (arith, b .3) }),
       λ one. mapping-keeps lim h rows ls (lineAs u c d) (f .1 one) n,
     )
 
-last-held : (lim : Limits) (h : Head) (rows : List (List ℕ)) (ls : List Line) (x : Form) (r : Reading) → Sound lim (tableWith h rows ls) → lastStep h rows ls x ≡ went r → Holding lim r
-unfolding lastStep
-last-held lim h rows ls noForm r f e = absurd (stop-went _ r e)
-last-held lim h rows ls reserved r f e = absurd (stop-went _ r e)
-last-held lim h rows ls blank r f e = subst (Holding lim) (went-same _ r e) f
-last-held lim h rows ls ending r f e = absurd (stop-went _ r e)
-last-held lim h rows ls (mapping u c d) r f e = absurd (stop-went _ r e)
+last-held : (lim : Limits) (h : Keys) (rows : List (List Cell)) (ls : List Line) (x : Form) → Sound lim (tableWith h rows ls) → Holding lim (lastAsks h rows ls x .behind)
+last-held lim h rows ls noForm f = f
+last-held lim h rows ls reserved f = f
+last-held lim h rows ls blank f = f
+last-held lim h rows ls ending f = f
+last-held lim h rows ls (mapping u c d) f = f
 
-phase-held : (lim : Limits) (p : Phase) (h : Head) (rows : List (List ℕ)) (ls : List Line) (s : List ℕ) (r : Reading) → HeldAt lim p h rows ls → phaseStep lowest lim p h rows ls s ≡ went r → Holding lim r
-unfolding phaseStep
-phase-held lim Header h rows ls s r f e = header-held lim h rows s (lineOf s) r (line-range s) f e
-phase-held lim Mappings h rows ls s r f e = mapping-held lim h rows ls s (mappedOf s) r refl f e
-phase-held lim Ended h rows ls s r f e = last-held lim h rows ls (lastOf s) r f e
+phase-held : (lim : Limits) (p : Phase) (h : Keys) (rows : List (List Cell)) (ls : List Line) (s : List ℕ) → HeldAt lim p h rows ls
+    → NoneHolds (phaseAsks lim p h rows ls s .conditions) → Holding lim (phaseAsks lim p h rows ls s .behind)
+phase-held lim Header h rows ls s f n = header-held lim h rows s (lineOf s) (line-range s) f n
+phase-held lim Mappings h rows ls s f n = mapping-held lim h rows ls s (mappedOf s) refl f n
+phase-held lim Ended h rows ls s f n = last-held lim h rows ls (lastOf s) f
 
 -- a line judged fine keeps it
 pub step-held : (lim : Limits) (r : Reading) (s : List ℕ) (q : Reading) → Holding lim r → stepOf lowest lim r s ≡ went q → Holding lim q
-step-held lim r s q f e = phase-held lim (r .phase) (r .head) (r .rows) (r .lines) s q f e
+step-held lim r s q f e =
+    let a = lineAsks lim r s in
+    let j = judged-went (lowest (a .conditions)) (a .behind) q e in
+    subst (Holding lim) (j .1) (phase-held lim (r .phase) (r .head) (r .rows) (r .lines) s f (lowest-fine (a .conditions) (j .0)))

@@ -5,6 +5,7 @@ use Prim.Native.Nat.{ℕ, suc, _+_, _≤_}
 use mathlib.Core.Path.{_≡_, refl, sym, ap, _∙_, subst}
 use mathlib.Core.Logic.{_⊎_, inl, inr}
 use mathlib.Core.Bool.{Bool, true, false}
+use mathlib.Core.Option.{Option, some}
 use mathlib.Core.List.{List, [], _∷_, _++_, map, reverse, reverse-cons, map-append}
 use native.Mathlib.Omega.{arith}
 use lib.ListN.{length, length-append}
@@ -17,11 +18,13 @@ use Rattle.lists.proofs.Laws.{clash}
 use Rattle.lists.proofs.Cases.{pick-case}
 use Rattle.lists.proofs.Chains.{either-first, either-rest}
 use Rattle.table.specs.Limits.{Limits}
-use Rattle.table.specs.Codes.{packed, bytesOf}
+use Rattle.table.specs.Cells.{Cell}
+use Rattle.table.specs.Codes.{packed}
 use Rattle.table.specs.Meaning.{same}
 use Rattle.table.specs.Rules.{anyOf}
+use Rattle.table.specs.Keys.{Class as ConvClasses, sbcs, mbcs, classBy, Keys, isSome, minOf, maxOf, subcharOf}
 use Rattle.table.specs.Row.{columnsOf, rowOf, laterColumn, overColumn}
-use Rattle.table.specs.Header.{keyOf, className, valueOf}
+use Rattle.table.specs.Header.{keyOf, className, valueOf, isRow}
 use Rattle.table.specs.Numbers.{n11, n12, n14, n15, rowLater, rowOver}
 use Rattle.table.specs.Load.{keep, keepRow}
 use Rattle.table.specs.Grammar.{Pair, keyText, classes, NameValue, SizeValue, Quoted, BytesValue, SubcharValue, RowValue, StateRow, StateRows, valuesOf}
@@ -30,7 +33,6 @@ use Rattle.table.specs.declared.header.Key.{Key}
 use Rattle.table.specs.declared.header.Key.the-variants.{CodeSetName, CurMin, CurMax, ConvClass, SubChar, SubChar1, State, Base, Other}
 use Rattle.table.specs.declared.header.Value.{Value}
 use Rattle.table.specs.declared.header.Value.the-variants.{Unfit, Any, Name, Min, Max, Class, Sub, Sub1, Row, Later}
-use Rattle.table.specs.declared.header.Head.{Head}
 use Rattle.table.proofs.LineLaws.{same-is}
 use Rattle.table.proofs.Packing.{unpack}
 use Rattle.table.proofs.ValueRead.{name-cases, min-cases, max-cases, ClassCase, class-cases, sub-cases, sub1-cases, bytes-are}
@@ -72,7 +74,7 @@ key-means w =
 
 -- ## What is kept, key by key
 
--- a once-only key: not given yet (the number kept for it is 0), or given once, with a value of its form
+-- a once-only key: not given yet (n is 0), or given once, with a value of its form
 abbrev pub Given : ℕ → (List ℕ → Type 0) → List (List ℕ) → Type 0
 Given n P vs = ((n ≡ 0) × (vs ≡ [])) ⊎ ((1 ≤ n) × ((v : List ℕ) × (vs ≡ v ∷ []) × P v))
 
@@ -94,33 +96,36 @@ abbrev pub flag : Bool → ℕ
 flag false = 0
 flag true = 1
 
--- classes by their number
-abbrev pub ClassOf : ℕ → List ℕ → Type 0
-ClassOf c v = ((c ≡ 1) × Quoted (ascii "SBCS") v) ⊎ ((c ≡ 2) × Quoted (ascii "MBCS") v)
+-- 1 where a value is given
+abbrev pub given1 : {A : Type 0} → Option A → ℕ
+given1 o = flag (isSome o)
 
-abbrev pub Subchar1Of : ℕ → List ℕ → Type 0
-Subchar1Of n v = (b : ℕ) × (n ≡ 1 + b) × BytesValue (b ∷ []) v
+abbrev pub ClassOf : Option ConvClasses → List ℕ → Type 0
+ClassOf c v = ((c ≡ some sbcs) × Quoted (ascii "SBCS") v) ⊎ ((c ≡ some mbcs) × Quoted (ascii "MBCS") v)
+
+abbrev pub Subchar1Of : Option ℕ → List ℕ → Type 0
+Subchar1Of o v = (b : ℕ) × (o ≡ some b) × BytesValue (b ∷ []) v
 
 -- ps are the lines so far, the last one first
-abbrev pub Slots : Head → List Pair → Type 0
+abbrev pub Slots : Keys → List Pair → Type 0
 Slots h ps =
     Slot (flag (h .name)) NameValue (valuesOf CodeSetName ps)
-    × Slot (h .min) (SizeValue (h .min)) (valuesOf CurMin ps)
-    × Slot (h .max) (SizeValue (h .max)) (valuesOf CurMax ps)
-    × Slot (h .class) (ClassOf (h .class)) (valuesOf ConvClass ps)
-    × Slot (h .sub .len) (SubcharValue (bytesOf (h .sub))) (valuesOf SubChar ps)
-    × Slot (h .sub1) (Subchar1Of (h .sub1)) (valuesOf SubChar1 ps)
+    × Slot (given1 (h .min)) (SizeValue (minOf h)) (valuesOf CurMin ps)
+    × Slot (given1 (h .max)) (SizeValue (maxOf h)) (valuesOf CurMax ps)
+    × Slot (given1 (h .class)) (ClassOf (h .class)) (valuesOf ConvClass ps)
+    × Slot (given1 (h .subchar)) (SubcharValue (subcharOf h)) (valuesOf SubChar ps)
+    × Slot (given1 (h .subchar1)) (Subchar1Of (h .subchar1)) (valuesOf SubChar1 ps)
 
--- the rows so far, n of them; vs are the values of icu:state in the text's order, bs those of icu:base
-pub record RowsHeld (n : ℕ) (rows vs bs : List (List ℕ)) : Type 0 where
+-- the rows so far; vs are the values of icu:state in the text's order, bs those of icu:base
+pub record RowsHeld (rows : List (List Cell)) (vs bs : List (List ℕ)) : Type 0 where
   pub entries : List (List Column)
   pub states : StateRows 0 entries vs
   pub rows-are : rows ≡ map rowOf entries
-  pub counted : n ≡ length entries
+  pub counted : length rows ≡ length entries
   pub no-base : bs ≡ []
 
-abbrev pub Held : Head → List (List ℕ) → List Pair → Type 0
-Held h rows ps = Slots h ps × RowsHeld (h .rows) rows (reverse (valuesOf State ps)) (valuesOf Base ps)
+abbrev pub Held : Keys → List (List Cell) → List Pair → Type 0
+Held h rows ps = Slots h ps × RowsHeld rows (reverse (valuesOf State ps)) (valuesOf Base ps)
 
 -- one row more
 rows-more : (n : ℕ) (ess : List (List Column)) (vs : List (List ℕ)) (es : List Column) (v : List ℕ) → StateRows n ess vs → StateRow (n + length ess) es v
@@ -132,17 +137,17 @@ rows-more n (e ∷ ess) (x ∷ vs) es v s r =
     let k : n + suc (length ess) ≡ n + 1 + length ess = omega arith in
     (s .0, rows-more (n + 1) ess vs es v (s .1) (subst (λ (m : ℕ). StateRow m es v) k r))
 
-rows-own : (n : ℕ) (rows vs bs : List (List ℕ)) (v : List ℕ) → StateRow n (columnsOf v) v → RowsHeld n rows (reverse vs) bs
-    → RowsHeld (n + 1) (rows ++ (rowOf (columnsOf v) ∷ [])) (reverse (v ∷ vs)) bs
-rows-own n rows vs bs v x r =
+rows-own : (rows : List (List Cell)) (vs bs : List (List ℕ)) (v : List ℕ) → StateRow (length rows) (columnsOf v) v → RowsHeld rows (reverse vs) bs
+    → RowsHeld (rows ++ (rowOf (columnsOf v) ∷ [])) (reverse (v ∷ vs)) bs
+rows-own rows vs bs v x r =
     let c = r .counted in
-    let e : n ≡ 0 + length (r .entries) = omega arith in
+    let e : length rows ≡ 0 + length (r .entries) = omega arith in
     record {
       entries = r .entries ++ (columnsOf v ∷ []);
       states = subst (StateRows 0 (r .entries ++ (columnsOf v ∷ []))) (sym (reverse-cons v vs))
           (rows-more 0 (r .entries) (reverse vs) (columnsOf v) v (r .states) (subst (λ (m : ℕ). StateRow m (columnsOf v) v) e x));
-      rows-are = ap (λ (l : List (List ℕ)). l ++ (rowOf (columnsOf v) ∷ [])) (r .rows-are) ∙ sym (map-append rowOf (r .entries) (columnsOf v ∷ []));
-      counted = omega (arith, length-append (r .entries) (columnsOf v ∷ []));
+      rows-are = ap (λ (l : List (List Cell)). l ++ (rowOf (columnsOf v) ∷ [])) (r .rows-are) ∙ sym (map-append rowOf (r .entries) (columnsOf v ∷ []));
+      counted = omega (arith, length-append rows (rowOf (columnsOf v) ∷ []), length-append (r .entries) (columnsOf v ∷ []));
       no-base = r .no-base;
     }
 
@@ -158,10 +163,6 @@ later n x e f = absurd (clash (ap (n14 n) e) f)
 
 none-kept : (n : ℕ) → ltb 0 n ≡ false → n ≡ 0
 none-kept n e = let k = ltb-false 0 n e in omega arith
-
-bytes-some : (c v : List ℕ) → BytesValue c v → 1 ≤ length c
-bytes-some [] v (m, s, b) = absurd s
-bytes-some (x ∷ c) v f = omega arith
 
 -- a row that passes
 row-opening : (n k : ℕ) (es : List Column) (v : List ℕ) → RowValue k es v → pick (eqb k 2) true (pick (eqb k 1) (ltb 0 n) false) ≡ false → (k ≡ 0) ⊎ ((k ≡ 1) × (n ≡ 0))
@@ -181,20 +182,20 @@ row-passed lim n k l o v f x y e g =
       ranged = none-over (columnsOf v) .0 (sym y ∙ either-first o (leb (lim .rows) n) g);
     }
 
-module _ (lim : Limits) (h : Head) (rows : List (List ℕ)) (ps : List Pair) (v : List ℕ) (held : Held h rows ps) where
+module _ (lim : Limits) (h : Keys) (rows : List (List Cell)) (ps : List Pair) (v : List ℕ) (held : Held h rows ps) where
   -- behind a line of the key w, read as x
   abbrev After : List ℕ → Value → Type 0
   After w x = Held (keep h x) (keepRow x v rows) (pair w v ∷ ps)
 
   -- the line passes
   abbrev pub Passes : List ℕ → Key → Type 0
-  Passes w k = n11 h k ≡ false → n12 (valueOf k v) ≡ false → n14 (h .rows) (valueOf k v) ≡ false → n15 lim (h .rows) (valueOf k v) ≡ false → After w (valueOf k v)
+  Passes w k = n11 h k ≡ false → n12 (valueOf k v) ≡ false → n14 (length rows) (valueOf k v) ≡ false → n15 lim (length rows) (valueOf k v) ≡ false → After w (valueOf k v)
 
   slots : Slots h ps
   slots = held .0
 
   name-passes : Passes (keyText CodeSetName) CodeSetName
-  unfolding n11 keep keepRow valuesOf same
+  unfolding n11 keep keepRow isRow valuesOf same
   name-passes again fit built ranged = by-case (name-cases v) slots
     where
       by-case : (valueOf CodeSetName v ≡ Unfit) ⊎ ((valueOf CodeSetName v ≡ Name) × NameValue v) → Slots h ps → After (keyText CodeSetName) (valueOf CodeSetName v)
@@ -202,34 +203,34 @@ module _ (lim : Limits) (h : Head) (rows : List (List ℕ)) (ps : List Pair) (v 
       by-case (inr (e, f)) s = subst (After (keyText CodeSetName)) (sym e) ((given v (s .0) (ap flag again) (omega arith) f, s .1, s .2, s .3, s .4, s .5), held .1)
 
   min-passes : Passes (keyText CurMin) CurMin
-  unfolding n11 keep keepRow valuesOf same
+  unfolding n11 keep keepRow isRow valuesOf same
   min-passes again fit built ranged = by-case (min-cases v) slots
     where
       by-case : (valueOf CurMin v ≡ Unfit) ⊎ ((d : ℕ) × (valueOf CurMin v ≡ Min d) × SizeValue d v) → Slots h ps → After (keyText CurMin) (valueOf CurMin v)
       by-case (inl u) s = unfit (valueOf CurMin v) u fit
-      by-case (inr (d, e, f)) s = subst (After (keyText CurMin)) (sym e) ((s .0, given v (s .1) (none-kept (h .min) again) (f .0) f, s .2, s .3, s .4, s .5), held .1)
+      by-case (inr (d, e, f)) s = subst (After (keyText CurMin)) (sym e) ((s .0, given v (s .1) (ap flag again) (omega arith) f, s .2, s .3, s .4, s .5), held .1)
 
   max-passes : Passes (keyText CurMax) CurMax
-  unfolding n11 keep keepRow valuesOf same
+  unfolding n11 keep keepRow isRow valuesOf same
   max-passes again fit built ranged = by-case (max-cases v) slots
     where
       by-case : (valueOf CurMax v ≡ Unfit) ⊎ ((d : ℕ) × (valueOf CurMax v ≡ Max d) × SizeValue d v) → Slots h ps → After (keyText CurMax) (valueOf CurMax v)
       by-case (inl u) s = unfit (valueOf CurMax v) u fit
-      by-case (inr (d, e, f)) s = subst (After (keyText CurMax)) (sym e) ((s .0, s .1, given v (s .2) (none-kept (h .max) again) (f .0) f, s .3, s .4, s .5), held .1)
+      by-case (inr (d, e, f)) s = subst (After (keyText CurMax)) (sym e) ((s .0, s .1, given v (s .2) (ap flag again) (omega arith) f, s .3, s .4, s .5), held .1)
 
   class-passes : Passes (keyText ConvClass) ConvClass
-  unfolding n11 className keep keepRow valuesOf same
+  unfolding n11 className keep keepRow isRow valuesOf same
   class-passes again fit built ranged = by-case (class-cases v) slots
     where
-      kept : (c : ℕ) → 1 ≤ c → ClassOf c v → Slots h ps → After (keyText ConvClass) (Class c)
-      kept c one f s = ((s .0, s .1, s .2, given v (s .3) (none-kept (h .class) again) one f, s .4, s .5), held .1)
+      kept : (c : ℕ) → ClassOf (some (classBy c)) v → Slots h ps → After (keyText ConvClass) (Class c)
+      kept c f s = ((s .0, s .1, s .2, given v (s .3) (ap flag again) (omega arith) f, s .4, s .5), held .1)
 
       by-word : (w : List ℕ) → Quoted w v → valueOf ConvClass v ≡ className w → In w classes
           → Slots h ps → After (keyText ConvClass) (valueOf ConvClass v)
-      by-word w q e (inl i) s = subst (After (keyText ConvClass)) (sym (e ∙ ap className i)) (kept 1 (omega arith) (inl (refl, subst (λ (x : List ℕ). Quoted x v) i q)) s)
-      by-word w q e (inr (inl i)) s = subst (After (keyText ConvClass)) (sym (e ∙ ap className i)) (kept 2 (omega arith) (inr (refl, subst (λ (x : List ℕ). Quoted x v) i q)) s)
-      by-word w q e (inr (inr (inl i))) s = later (h .rows) (valueOf ConvClass v) (e ∙ ap className i) built
-      by-word w q e (inr (inr (inr (inl i)))) s = later (h .rows) (valueOf ConvClass v) (e ∙ ap className i) built
+      by-word w q e (inl i) s = subst (After (keyText ConvClass)) (sym (e ∙ ap className i)) (kept 1 (inl (refl, subst (λ (x : List ℕ). Quoted x v) i q)) s)
+      by-word w q e (inr (inl i)) s = subst (After (keyText ConvClass)) (sym (e ∙ ap className i)) (kept 2 (inr (refl, subst (λ (x : List ℕ). Quoted x v) i q)) s)
+      by-word w q e (inr (inr (inl i))) s = later (length rows) (valueOf ConvClass v) (e ∙ ap className i) built
+      by-word w q e (inr (inr (inr (inl i)))) s = later (length rows) (valueOf ConvClass v) (e ∙ ap className i) built
       by-word w q e (inr (inr (inr (inr i)))) s = absurd i
 
       by-case : ClassCase v → Slots h ps → After (keyText ConvClass) (valueOf ConvClass v)
@@ -237,36 +238,36 @@ module _ (lim : Limits) (h : Head) (rows : List (List ℕ)) (ps : List Pair) (v 
       by-case (inr (w, q, e, i)) s = by-word w q e i s
 
   sub-passes : Passes (keyText SubChar) SubChar
-  unfolding n11 keep keepRow valuesOf same
+  unfolding n11 keep keepRow isRow valuesOf same
   sub-passes again fit built ranged = by-case (sub-cases v) slots
     where
       by-case : (valueOf SubChar v ≡ Unfit) ⊎ ((c : List ℕ) × (valueOf SubChar v ≡ Sub (packed c) (length c)) × SubcharValue c v) → Slots h ps → After (keyText SubChar) (valueOf SubChar v)
       by-case (inl u) s = unfit (valueOf SubChar v) u fit
       by-case (inr (c, e, f)) s =
           let g = subst (λ (x : List ℕ). SubcharValue x v) (sym (unpack c (bytes-are c v (f .1)) (f .0))) f in
-          subst (After (keyText SubChar)) (sym e) ((s .0, s .1, s .2, s .3, given v (s .4) (none-kept (h .sub .len) again) (bytes-some c v (f .1)) g, s .5), held .1)
+          subst (After (keyText SubChar)) (sym e) ((s .0, s .1, s .2, s .3, given v (s .4) (ap flag again) (omega arith) g, s .5), held .1)
 
   sub1-passes : Passes (keyText SubChar1) SubChar1
-  unfolding n11 keep keepRow valuesOf same
+  unfolding n11 keep keepRow isRow valuesOf same
   sub1-passes again fit built ranged = by-case (sub1-cases v) slots
     where
       by-case : (valueOf SubChar1 v ≡ Unfit) ⊎ ((b : ℕ) × (valueOf SubChar1 v ≡ Sub1 b) × BytesValue (b ∷ []) v) → Slots h ps → After (keyText SubChar1) (valueOf SubChar1 v)
       by-case (inl u) s = unfit (valueOf SubChar1 v) u fit
-      by-case (inr (b, e, f)) s = subst (After (keyText SubChar1)) (sym e) ((s .0, s .1, s .2, s .3, s .4, given v (s .5) (none-kept (h .sub1) again) (omega arith) (b, refl, f)), held .1)
+      by-case (inr (b, e, f)) s = subst (After (keyText SubChar1)) (sym e) ((s .0, s .1, s .2, s .3, s .4, given v (s .5) (ap flag again) (omega arith) (b, refl, f)), held .1)
 
   state-passes : Passes (keyText State) State
-  unfolding keep keepRow valuesOf same
+  unfolding keep keepRow isRow valuesOf same
   state-passes again fit built ranged = by-case (row-cases v)
     where
       by-case : RowCase v → After (keyText State) (valueOf State v)
       by-case (inl u) = unfit (valueOf State v) u fit
       by-case (inr (k, l, o, e, f, x, y)) =
-          let r = row-passed lim (h .rows) k l o v f x y (sym (ap (n14 (h .rows)) e) ∙ built) (sym (ap (n15 lim (h .rows)) e) ∙ ranged) in
-          subst (After (keyText State)) (sym e) (slots, rows-own (h .rows) rows (valuesOf State ps) (valuesOf Base ps) v r (held .1))
+          let r = row-passed lim (length rows) k l o v f x y (sym (ap (n14 (length rows)) e) ∙ built) (sym (ap (n15 lim (length rows)) e) ∙ ranged) in
+          subst (After (keyText State)) (sym e) (slots, rows-own rows (valuesOf State ps) (valuesOf Base ps) v r (held .1))
 
   -- a key that is ignored
   other-passes : (w : List ℕ) → KeyMeans w Other → After w Any
-  unfolding keep keepRow valuesOf
+  unfolding keep keepRow isRow valuesOf
   other-passes w (a, b, c, d, e, f, g, i) = rw (a, b, c, d, e, f, g, i) held
 
   -- whatever the key
@@ -279,5 +280,5 @@ module _ (lim : Limits) (h : Head) (rows : List (List ℕ)) (ps : List Pair) (v 
   key-passes w SubChar m = subst (λ (x : List ℕ). Passes x SubChar) (sym m) sub-passes
   key-passes w SubChar1 m = subst (λ (x : List ℕ). Passes x SubChar1) (sym m) sub1-passes
   key-passes w State m = subst (λ (x : List ℕ). Passes x State) (sym m) state-passes
-  key-passes w Base m = λ again fit built ranged. later (h .rows) Later refl built
+  key-passes w Base m = λ again fit built ranged. later (length rows) Later refl built
   key-passes w Other m = λ again fit built ranged. other-passes w m

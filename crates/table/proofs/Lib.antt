@@ -1,6 +1,8 @@
+pub mod CellLaws
 pub mod RowLaws
 pub mod Depth
 pub mod Cuts
+pub mod KeptSizes
 pub mod Packing
 mod Marking
 pub mod CodeOrder
@@ -17,10 +19,12 @@ pub mod EntryLaws
 pub mod Sorted
 pub mod Inserted
 pub mod StoreLaws
+pub mod Ranks
 pub mod LineLaws
 pub mod ValidLaws
 pub mod RowText
 pub mod HeaderLaws
+pub mod KeyLaws
 pub mod HeaderCases
 pub mod Tokens
 pub mod WordLines
@@ -44,13 +48,18 @@ pub mod TextRead
 pub mod NumbersRead
 pub mod TextCases
 pub mod FirstLine
+pub mod Counts
 pub mod Leaves
 pub mod InMemory
 pub mod CodePositions
 pub mod GivenText
+pub mod HeldMemory
+pub mod TableParts
+pub mod LoadedForm
 pub mod LineSteps
 pub mod HeaderSteps
 pub mod MappingSteps
 pub mod RunSteps
 pub mod LoadLaws
-pub mod Hits
+pub mod FoundLines
+pub mod LookupLaws

@@ -10,40 +10,42 @@ use lib.Dec.{ltb, leb, eqb}
 use lib.ListN.{length, take, getD, length-map}
 use borrow.Author.Tests.{eqb-true, eqb-false, eq-eqb, ne-eqb, leb-true, le-leb, lt-leb, ltb-true}
 use Rattle.lists.specs.Pick.{pick}
-use Rattle.lists.specs.Order.{All, firstOf, sort}
+use Rattle.lists.specs.Order.{All, sort}
 use Rattle.lists.proofs.Order.{all-in, all-map, all-of, in-sort, sort-in, sort-length}
-use Rattle.lists.proofs.Choice.{same-test, pick-false, pick-self, both-swap}
+use Rattle.lists.proofs.Cases.{pick-yes}
+use Rattle.lists.proofs.Choice.{same-test, pick-false, pick-self}
 use Rattle.lists.proofs.Chains.{bar-first, bar-rest, either-first, either-rest, neither}
 use Rattle.lists.proofs.First.{first-found}
 use Rattle.lists.proofs.Laws.{clash, both, both-left, both-right}
-use Rattle.table.specs.Limits.{Limits, limits}
+use Rattle.table.specs.Limits.{Limits}
 use Rattle.table.specs.States.{Rows, endKind}
 use Rattle.table.specs.Codes.{packed, unpacked, AllByte}
-use Rattle.table.specs.Meaning.{Line, Table, stepsOf, same, isRead, isWritten, reader, writer}
+use Rattle.table.specs.Meaning.{Line, Table, stepsOf, same, isRead, isWritten, hasCode, isSubstituted, reader}
 use Rattle.table.specs.Rules.{allOf, anyOf, Keeps, t1Sizes, t5, t5Kind, t6, t7, t8, t8Byte, t9, sharesBytes, sharesPoint}
-use Rattle.table.specs.Entry.{Entry, mk, pointIn, rankIn, extraIn, rankOf, indicatorIn, entryOf, lineIn, padded, entryOk, less, readsEntry, writesEntry, readClash, writeClash, Apart, AllApart}
+use Rattle.table.specs.Entry.{Entry, mk, pointIn, rankIn, extraIn, rankOf, indicatorIn, entryOf, lineIn, padded, isRank, entryOk, less, readsEntry, writesEntry, readClash, writeClash, Apart, AllApart}
+use Rattle.table.specs.Slices.{Slices}
 use Rattle.table.specs.Memory.{entries, sorted, sub1In, recordOf, Form, Proper, ProperLine}
-use Rattle.table.specs.Search.{readsCode, writesPoint, foundOf, readOf, writeOf, readTaken, writeTaken}
+use Rattle.table.specs.Search.{readTaken, writeTaken}
 use Rattle.table.specs.Progress.{GoodLine}
 use Rattle.table.specs.Common.{CommonCode}
 use Rattle.table.specs.Valid.{lineOk, Kept}
 use Rattle.table.specs.declared.valid.Record.{Record}
-use Rattle.table.specs.declared.store.Found.{Found}
-use Rattle.table.specs.declared.store.Found.the-variants.{Hit, Nothing}
 use Rattle.table.proofs.EntryLaws.{read-sym, write-sym}
+use Rattle.table.proofs.KeptSizes.{sizes-kept}
 use Rattle.table.proofs.Every.{any-in, in-any}
 use Rattle.table.proofs.Sorted.{sorted-rising, sorted-apart}
-use Rattle.table.proofs.StoreLaws.{held-is, read-sorted, write-sorted}
+use Rattle.table.proofs.StoreLaws.{held-is}
+use Rattle.table.proofs.Ranks.{rank-case, rank-back, rank-known, rank-small, indicator-back, indicator-small, reads-rank, writes-rank, code-or-subchar1}
 use Rattle.table.proofs.Packing.{length-unpacked, unpacked-bytes, unpack, pack-unpack, pack-one-way, packed-padded}
 
 -- the rank of an entry of the form
-pub ok-rank : (e : Entry) → entryOk e ≡ true → rankIn (e .info) ≤ 3
+pub ok-rank : (e : Entry) → entryOk e ≡ true → isRank (rankIn (e .info)) ≡ true
 unfolding entryOk
-ok-rank e h = leb-true (rankIn (e .info)) 3 (both-left _ _ h)
+ok-rank e h = both-left _ _ h
 
 pub ok-padded : (e : Entry) → entryOk e ≡ true → padded (extraIn (e .info) + 1) (e .bits) ≡ true
 unfolding entryOk
-ok-padded e h = both-right (leb (rankIn (e .info)) 3) _ h
+ok-padded e h = both-right (isRank (rankIn (e .info))) _ h
 
 -- the rules of a stored line by its numbers
 module _ (e : Entry) where
@@ -56,28 +58,23 @@ module _ (e : Entry) where
   abbrev bytes : List ℕ
   bytes = unpacked (extra + 1) (e .bits)
 
-  -- indicators by rank
-  two-at : rank ≡ 3 → indicatorIn rank ≡ 2
-  two-at h = rw h
-
-  not-two : rank ≤ 3 → (rank ≡ 3 → ⊥) → eqb (indicatorIn rank) 2 ≡ false
-  not-two h d = go (eqb rank 0) refl (eqb rank 1) refl (eqb rank 2) refl
-    where
-      go : (x : Bool) → eqb rank 0 ≡ x → (y : Bool) → eqb rank 1 ≡ y → (z : Bool) → eqb rank 2 ≡ z → eqb (pick x 0 (pick y 3 (pick z 1 2))) 2 ≡ false
-      go true p y q z r = refl
-      go false p true q z r = refl
-      go false p false q true r = refl
-      go false p false q false r = absurd (let a = eqb-false rank 0 p in let b = eqb-false rank 1 q in let c = eqb-false rank 2 r in omega arith)
+  -- the line, if its rank were r
+  abbrev ranked : ℕ → Line
+  ranked r = record { point = pointIn (e .info); code = bytes; indicator = indicatorIn r }
 
   -- T5
   module _ (step : Rows) (min max : ℕ) where
-    pub t5-two : rank ≡ 3 → t5 step min max (lineIn e) ≡ true
+    pub t5-two : rank ≡ 4 → t5 step min max (lineIn e) ≡ true
     unfolding lineIn
-    t5-two h = rw (two-at h)
+    t5-two h = ap (λ (r : ℕ). t5 step min max (ranked r)) h
 
-    pub t5-other : rank ≤ 3 → (rank ≡ 3 → ⊥) → t5 step min max (lineIn e) ≡ pick (leb min (extra + 1)) (pick (leb (extra + 1) max) (t5Kind (pointIn (e .info)) (endKind step 0 bytes)) false) false
+    pub t5-other : isRank rank ≡ true → (rank ≡ 4 → ⊥)
+        → t5 step min max (lineIn e) ≡ pick (leb min (extra + 1)) (pick (leb (extra + 1) max) (t5Kind (pointIn (e .info)) (endKind step 0 bytes)) false) false
     unfolding lineIn
-    t5-other h d = rw (not-two h d, length-unpacked (extra + 1) (e .bits))
+    t5-other h d = pick-yes (hasCode (ranked rank)) _ true (coded rank h d) ∙ rw (length-unpacked (extra + 1) (e .bits))
+      where
+        coded : (r : ℕ) → isRank r ≡ true → (r ≡ 4 → ⊥) → hasCode (ranked r) ≡ true
+        coded = rank-case (λ r. (r ≡ 4 → ⊥) → hasCode (ranked r) ≡ true) (λ d. refl) (λ d. refl) (λ d. refl) (λ d. absurd (d refl))
 
   -- T7 and T8
   first-byte : getD bytes 0 0 ≡ e .bits / 16777216
@@ -91,15 +88,12 @@ module _ (e : Entry) where
       go true p = let q = eqb-true extra 0 p in le-leb (extra + 1) 1 (omega arith)
       go false p = let q = eqb-false extra 0 p in lt-leb (extra + 1) 1 (omega arith)
 
-  unread : rank ≤ 3 → (rank ≡ 3 → ⊥) → leb 2 (indicatorIn rank) ≡ eqb rank 1
-  unread h d = go (eqb rank 0) refl (eqb rank 1) refl (eqb rank 2) refl
-    where
-      go : (x : Bool) → eqb rank 0 ≡ x → (y : Bool) → eqb rank 1 ≡ y → (z : Bool) → eqb rank 2 ≡ z → leb 2 (pick x 0 (pick y 3 (pick z 1 2))) ≡ y
-      go true p true q z r = absurd (let a = eqb-true rank 0 p in let b = eqb-true rank 1 q in omega arith)
-      go true p false q z r = refl
-      go false p true q z r = refl
-      go false p false q true r = refl
-      go false p false q false r = absurd (let a = eqb-false rank 0 p in let b = eqb-false rank 1 q in let c = eqb-false rank 2 r in omega arith)
+  -- T7 of a line whose code is written
+  abbrev lead : Bool
+  lead = pick (eqb extra 0) true (pick (eqb (e .bits / 16777216) 0) false true)
+
+  lead-is : pick (leb (length bytes) 1) true (pick (eqb (getD bytes 0 0) 0) false true) ≡ lead
+  lead-is = rw (length-unpacked (extra + 1) (e .bits), one-byte, first-byte)
 
   same-one : (n v b : ℕ) → same (unpacked (n + 1) v) (b ∷ []) ≡ pick (eqb n 0) (eqb (v / 16777216) b) false
   unfolding same unpacked
@@ -113,25 +107,14 @@ module _ (e : Entry) where
       go true = refl
       go false = same-one extra (e .bits) (sub1 - 1)
 
-  rest-two : (sub1 : ℕ) → rank ≡ 3 → pick (t7 (lineIn e)) (t8 (sub1In sub1) (lineIn e)) false ≡ pick (eqb sub1 0) false (pick (eqb extra 0) (eqb (e .bits / 16777216) (sub1 - 1)) false)
-  unfolding lineIn
-  rest-two sub1 h = rw (two-at h) (t8-byte sub1)
-
-  rest-other : (sub1 : ℕ) → rank ≤ 3 → (rank ≡ 3 → ⊥)
-      → pick (t7 (lineIn e)) (t8 (sub1In sub1) (lineIn e)) false ≡ pick (eqb rank 1) true (pick (eqb extra 0) true (pick (eqb (e .bits / 16777216) 0) false true))
-  unfolding lineIn
-  rest-other sub1 h d = rw (not-two h d, length-unpacked (extra + 1) (e .bits), one-byte, unread h d, first-byte) (pick-self (pick (eqb rank 1) true (pick (eqb extra 0) true (pick (eqb (e .bits / 16777216) 0) false true))))
-
   pub rest-is : (sub1 : ℕ) → entryOk e ≡ true → pick (t7 (lineIn e)) (t8 (sub1In sub1) (lineIn e)) false
-      ≡ pick (eqb rank 3) (pick (eqb sub1 0) false (pick (eqb extra 0) (eqb (e .bits / 16777216) (sub1 - 1)) false))
-      (pick (eqb rank 1) true (pick (eqb extra 0) true (pick (eqb (e .bits / 16777216) 0) false true)))
-  rest-is sub1 h = go (eqb rank 3) refl
-    where
-      go : (t : Bool) → eqb rank 3 ≡ t → pick (t7 (lineIn e)) (t8 (sub1In sub1) (lineIn e)) false
-          ≡ pick t (pick (eqb sub1 0) false (pick (eqb extra 0) (eqb (e .bits / 16777216) (sub1 - 1)) false))
-          (pick (eqb rank 1) true (pick (eqb extra 0) true (pick (eqb (e .bits / 16777216) 0) false true)))
-      go true p = rest-two sub1 (eqb-true rank 3 p)
-      go false p = rest-other sub1 (ok-rank e h) (eqb-false rank 3 p)
+      ≡ pick (eqb rank 4) (pick (eqb sub1 0) false (pick (eqb extra 0) (eqb (e .bits / 16777216) (sub1 - 1)) false)) (pick (eqb rank 1) true lead)
+  unfolding lineIn
+  rest-is sub1 h =
+      rank-case
+      (λ r. pick (t7 (ranked r)) (t8 (sub1In sub1) (ranked r)) false
+      ≡ pick (eqb r 4) (pick (eqb sub1 0) false (pick (eqb extra 0) (eqb (e .bits / 16777216) (sub1 - 1)) false)) (pick (eqb r 1) true lead))
+      (pick-self _ ∙ lead-is) refl (pick-self _ ∙ lead-is) (t8-byte sub1) rank (ok-rank e h)
 
 -- a stored line by its tests in the order of the code
 module _ (step : Rows) (rec : Record) (e : Entry) where
@@ -168,9 +151,9 @@ first-kept rank extra b h = go (eqb rank 1) (eqb extra 0) refl (eqb b 0) refl
 module _ (step : Rows) (rec : Record) (e : Entry) (common : CommonCode step (rec .min) (rec .max) (extraIn (e .info) + 1) (e .bits)) (written : rankIn (e .info) ≤ 2) where
   common-formed : entryOk e ≡ true
   unfolding entryOk
-  common-formed = rw (le-leb (rankIn (e .info)) 3 (omega (arith, written)), common .its-form)
+  common-formed = rw (le-leb (rankIn (e .info)) 2 written, common .its-form)
 
-  no-two : rankIn (e .info) ≡ 3 → ⊥
+  no-two : rankIn (e .info) ≡ 4 → ⊥
   no-two q = omega (arith, written)
 
   common-t5 : pointIn (e .info) ≤ 0xffff → t5 step (rec .min) (rec .max) (lineIn e) ≡ true
@@ -181,7 +164,7 @@ module _ (step : Rows) (rec : Record) (e : Entry) (common : CommonCode step (rec
   common-rest : pick (t7 (lineIn e)) (t8 (sub1In (rec .subchar1)) (lineIn e)) false ≡ true
   common-rest =
       rest-is e (rec .subchar1) common-formed
-      ∙ rw (ne-eqb (rankIn (e .info)) 3 no-two) (first-kept (rankIn (e .info)) (extraIn (e .info)) (e .bits / 16777216) (common .its-first))
+      ∙ rw (ne-eqb (rankIn (e .info)) 4 no-two) (first-kept (rankIn (e .info)) (extraIn (e .info)) (e .bits / 16777216) (common .its-first))
 
   common-kept : pointIn (e .info) ≤ 0xffff → t6 (record { point = pointIn (e .info); code = []; indicator = 0 }) ≡ true → lineOk step rec e ≡ true
   common-kept p t = line-formed step rec e common-formed ∙ rw (t, common-rest, common-t5 p)
@@ -203,43 +186,6 @@ padded-length len v h = go (eqb len 1) refl (eqb len 2) refl (eqb len 3) refl h
     go false p false q true r e = let n = eqb-true len 3 r in (omega arith, omega arith)
     go false p false q false r e = let n = eqb-true len 4 e in (omega arith, omega arith)
 
--- ranks and indicators
-pub rank-back : (d : ℕ) → d < 4 → indicatorIn (rankOf d) ≡ d
-rank-back d h = go (eqb d 0) refl (eqb d 3) refl (eqb d 1) refl
-  where
-    go : (x : Bool) → eqb d 0 ≡ x → (y : Bool) → eqb d 3 ≡ y → (z : Bool) → eqb d 1 ≡ z → indicatorIn (pick x 0 (pick y 1 (pick z 2 3))) ≡ d
-    go true p y q z r = sym (eqb-true d 0 p)
-    go false p true q z r = sym (eqb-true d 3 q)
-    go false p false q true r = sym (eqb-true d 1 r)
-    go false p false q false r = let a = eqb-false d 0 p in let b = eqb-false d 3 q in let c = eqb-false d 1 r in omega arith
-
-rank-small : (d : ℕ) → rankOf d ≤ 3
-rank-small d = go (eqb d 0) (eqb d 3) (eqb d 1)
-  where
-    go : (x y z : Bool) → pick x 0 (pick y 1 (pick z 2 3)) ≤ 3
-    go true y z = omega arith
-    go false true z = omega arith
-    go false false true = omega arith
-    go false false false = omega arith
-
-indicator-back : (r : ℕ) → r ≤ 3 → rankOf (indicatorIn r) ≡ r
-indicator-back r h = go (eqb r 0) refl (eqb r 1) refl (eqb r 2) refl
-  where
-    go : (x : Bool) → eqb r 0 ≡ x → (y : Bool) → eqb r 1 ≡ y → (z : Bool) → eqb r 2 ≡ z → rankOf (pick x 0 (pick y 3 (pick z 1 2))) ≡ r
-    go true p y q z s = sym (eqb-true r 0 p)
-    go false p true q z s = sym (eqb-true r 1 q)
-    go false p false q true s = sym (eqb-true r 2 s)
-    go false p false q false s = let a = eqb-false r 0 p in let b = eqb-false r 1 q in let c = eqb-false r 2 s in omega arith
-
-indicator-small : (r : ℕ) → indicatorIn r < 4
-indicator-small r = go (eqb r 0) (eqb r 1) (eqb r 2)
-  where
-    go : (x y z : Bool) → pick x 0 (pick y 3 (pick z 1 2)) < 4
-    go true y z = omega arith
-    go false true z = omega arith
-    go false false true = omega arith
-    go false false false = omega arith
-
 t6-small : (l : Line) → t6 l ≡ true → l .point < 2097152
 t6-small l h = go (ltb (l .point) 0xd800) refl (ltb (l .point) 0xe000) h
   where
@@ -252,12 +198,12 @@ t6-small l h = go (ltb (l .point) 0xd800) refl (ltb (l .point) 0xe000) h
 abbrev infoFor : Line → ℕ
 infoFor l = l .point + 2097152 * rankOf (l .indicator) + 16777216 * (length (l .code) - 1)
 
-parts-of : (p r x : ℕ) → p < 2097152 → r ≤ 3 → ((p + 2097152 * r + 16777216 * x) % 2097152 ≡ p) × ((p + 2097152 * r + 16777216 * x) / 2097152 % 8 ≡ r) × ((p + 2097152 * r + 16777216 * x) / 16777216 ≡ x)
+parts-of : (p r x : ℕ) → p < 2097152 → r ≤ 4 → ((p + 2097152 * r + 16777216 * x) % 2097152 ≡ p) × ((p + 2097152 * r + 16777216 * x) / 2097152 % 8 ≡ r) × ((p + 2097152 * r + 16777216 * x) / 16777216 ≡ x)
 parts-of p r x h k = (omega arith, omega arith, omega arith)
 
 module _ (l : Line) (g : GoodLine l) where
   parts : (pointIn (infoFor l) ≡ l .point) × (rankIn (infoFor l) ≡ rankOf (l .indicator)) × (extraIn (infoFor l) ≡ length (l .code) - 1)
-  parts = parts-of (l .point) (rankOf (l .indicator)) (length (l .code) - 1) (t6-small l (g .scalar)) (rank-small (l .indicator))
+  parts = parts-of (l .point) (rankOf (l .indicator)) (length (l .code) - 1) (t6-small l (g .scalar)) (rank-small (rankOf (l .indicator)) (rank-known (l .indicator) (g .proper .digit)))
 
   pub line-entry : lineIn (entryOf l) ≡ l
   unfolding lineIn entryOf
@@ -272,8 +218,8 @@ module _ (l : Line) (g : GoodLine l) where
   unfolding entryOk entryOf
   entry-of-ok =
       let n : extraIn (infoFor l) + 1 ≡ length (l .code) = let h = g .some-bytes in let q = parts .2 in omega arith in
-      both (leb (rankIn (infoFor l)) 3) _
-      (le-leb (rankIn (infoFor l)) 3 (let q = parts .1 in let h = rank-small (l .indicator) in omega arith))
+      both (isRank (rankIn (infoFor l))) _
+      (ap isRank (parts .1) ∙ rank-known (l .indicator) (g .proper .digit))
       (ap (λ (k : ℕ). padded k (packed (l .code))) n ∙ packed-padded (l .code) (g .proper .bytes) (g .some-bytes) (g .few-bytes))
 
 pub entry-line : (e : Entry) → entryOk e ≡ true → entryOf (lineIn e) ≡ e
@@ -295,7 +241,7 @@ good-stored e h b p =
     let n = padded-length (extraIn (e .info) + 1) (e .bits) (ok-padded e h) in
     let q = length-unpacked (extraIn (e .info) + 1) (e .bits) in
     record {
-      proper = record { bytes = unpacked-bytes (extraIn (e .info) + 1) (e .bits) b; digit = indicator-small (rankIn (e .info)) };
+      proper = record { bytes = unpacked-bytes (extraIn (e .info) + 1) (e .bits) b; digit = indicator-small (rankIn (e .info)) (ok-rank e h) };
       some-bytes = omega (arith, n .0);
       few-bytes = omega (arith, n .1);
       scalar = p;
@@ -332,26 +278,6 @@ module _ (s t : List ℕ) (ps : AllByte s) (pt : AllByte t) (ls : 1 ≤ length s
           let n = eqb-true (length s - 1) (length t - 1) (both-right (eqb (packed s) (packed t)) _ h) in
           subst (λ (l : List ℕ). same s l ≡ true) (pack-one-way s t ps pt (omega arith) ms p) (is-same s)
 
--- which lines are read and which are written, by rank
-reads-rank : (d : ℕ) → d < 4 → leb (rankOf d) 1 ≡ pick (eqb d 0) true (eqb d 3)
-reads-rank d h = go (eqb d 0) (eqb d 3) (eqb d 1)
-  where
-    go : (x y z : Bool) → leb (pick x 0 (pick y 1 (pick z 2 3))) 1 ≡ pick x true y
-    go true y z = refl
-    go false true z = refl
-    go false false true = refl
-    go false false false = refl
-
-writes-rank : (d : ℕ) → d < 4 → pick (eqb (rankOf d) 1) false true ≡ pick (eqb d 3) false true
-writes-rank d h = go (eqb d 0) refl (eqb d 3) refl (eqb d 1)
-  where
-    go : (x : Bool) → eqb d 0 ≡ x → (y : Bool) → eqb d 3 ≡ y → (z : Bool) → pick (eqb (pick x 0 (pick y 1 (pick z 2 3))) 1) false true ≡ pick y false true
-    go true p true q z = absurd (let a = eqb-true d 0 p in let b = eqb-true d 3 q in omega arith)
-    go true p false q z = refl
-    go false p true q z = refl
-    go false p false q true = refl
-    go false p false q false = refl
-
 module _ (l : Line) (g : GoodLine l) where
   pub entry-bits : entryOf l .bits ≡ packed (l .code)
   unfolding entryOf
@@ -367,11 +293,11 @@ module _ (l : Line) (g : GoodLine l) where
 
   pub entry-reads : readsEntry (entryOf l) ≡ isRead l
   unfolding entryOf
-  entry-reads = ap (λ (k : ℕ). leb k 1) (parts l g .1) ∙ reads-rank (l .indicator) (g .proper .digit)
+  entry-reads = ap (λ (k : ℕ). leb k 1) (parts l g .1) ∙ reads-rank l (g .proper .digit)
 
   pub entry-writes : writesEntry (entryOf l) ≡ isWritten l
   unfolding entryOf
-  entry-writes = ap (λ (k : ℕ). pick (eqb k 1) false true) (parts l g .1) ∙ writes-rank (l .indicator) (g .proper .digit)
+  entry-writes = ap (λ (k : ℕ). pick (eqb k 1) false true) (parts l g .1) ∙ writes-rank l (g .proper .digit)
 
 -- T9 on lines and on what is stored
 four-shift : (p q r s : Bool) → pick r (pick s (pick p q false) false) false ≡ pick p (pick q (pick r s false) false) false
@@ -455,77 +381,39 @@ true-all f [] h = refl
 true-all f (x ∷ l) h = both (f x) (allOf f l) (h .0) (true-all f l (h .1))
 
 -- lines of a table that keeps the rules can be stored
-sizes-parts : (min max : ℕ) → t1Sizes min max ≡ true → (1 ≤ min) × (min ≤ max) × (max ≤ 4)
-sizes-parts min max h =
-    let h1 = both-right (leb 1 min) _ h in
-    (leb-true 1 min (both-left (leb 1 min) _ h), leb-true min max (both-left (leb min max) _ h1), leb-true max 4 (both-right (leb min max) _ h1))
-
 two-length : (sub1 : Option ℕ) (c : List ℕ) → t8Byte sub1 c ≡ true → length c ≡ 1
 two-length none c h = absurd (clash h refl)
 two-length (some b) c h = ap (λ (l : List ℕ). length l) (same-is c (b ∷ []) h)
 
-line-length : (step : Rows) (min max : ℕ) (sub1 : Option ℕ) (l : Line) → t1Sizes min max ≡ true → t5 step min max l ≡ true → t8 sub1 l ≡ true → (1 ≤ length (l .code)) × (length (l .code) ≤ 4)
-line-length step min max sub1 l s h k = go (eqb (l .indicator) 2) h k
+line-length : (step : Rows) (min max : ℕ) (sub1 : Option ℕ) (l : Line) → l .indicator < 4 → t1Sizes min max ≡ true → t5 step min max l ≡ true → t8 sub1 l ≡ true
+    → (1 ≤ length (l .code)) × (length (l .code) ≤ 4)
+line-length step min max sub1 l d s h k = go (isSubstituted l) (sym (ap (λ (t : Bool). pick t sized true) (code-or-subchar1 l d)) ∙ h) k
   where
-    go : (t : Bool) → pick t true (pick (leb min (length (l .code))) (pick (leb (length (l .code)) max) (t5Kind (l .point) (endKind step 0 (l .code))) false) false) ≡ true
-        → pick t (t8Byte sub1 (l .code)) true ≡ true → (1 ≤ length (l .code)) × (length (l .code) ≤ 4)
+    sized : Bool
+    sized = pick (leb min (length (l .code))) (pick (leb (length (l .code)) max) (t5Kind (l .point) (endKind step 0 (l .code))) false) false
+
+    go : (t : Bool) → pick (pick t false true) sized true ≡ true → pick t (t8Byte sub1 (l .code)) true ≡ true → (1 ≤ length (l .code)) × (length (l .code) ≤ 4)
     go true p q = let n = two-length sub1 (l .code) q in (omega arith, omega arith)
     go false p q =
-        let m = sizes-parts min max s in
+        let m = sizes-kept min max s in
         let lo = leb-true min (length (l .code)) (both-left (leb min (length (l .code))) _ p) in
         let p1 = both-right (leb min (length (l .code))) _ p in
         let hi = leb-true (length (l .code)) max (both-left (leb (length (l .code)) max) _ p1) in
-        (omega (arith, m .0), omega (arith, m .2))
+        (omega (arith, m .least, m .ordered), omega (arith, m .most))
 
 pub keeps-good : (lim : Limits) (t : Table) → Proper t → Keeps lim t → All GoodLine (t .lines)
 keeps-good lim t p k =
     all-of (t .lines) (λ l i.
-    let n = line-length (stepsOf t) (t .min) (t .max) (t .subchar1) l (k .rule1-sizes)
+    let proper = all-in ProperLine l (t .lines) (p .lines-proper) i in
+    let n = line-length (stepsOf t) (t .min) (t .max) (t .subchar1) l (proper .digit) (k .rule1-sizes)
     (all-in (λ x. t5 (stepsOf t) (t .min) (t .max) x ≡ true) l (t .lines) (all-true (t5 (stepsOf t) (t .min) (t .max)) (t .lines) (k .rule5)) i)
     (all-in (λ x. t8 (t .subchar1) x ≡ true) l (t .lines) (all-true (t8 (t .subchar1)) (t .lines) (k .rule8)) i) in
     record {
-      proper = all-in ProperLine l (t .lines) (p .lines-proper) i;
+      proper = proper;
       some-bytes = n .0;
       few-bytes = n .1;
       scalar = all-in (λ x. t6 x ≡ true) l (t .lines) (all-true t6 (t .lines) (k .rule6)) i;
     })
-
--- the line that is found, as it is stored
-abbrev pub foundLine : Option Line → Found
-foundLine none = Nothing
-foundLine (some l) = Hit (entryOf l .bits) (entryOf l .info)
-
-found-by : (b : Bool) (l : Line) (o : Option Entry) (q : Option Line) → foundOf o ≡ foundLine q → foundOf (pick b (some (entryOf l)) o) ≡ foundLine (pick b (some l) q)
-unfolding foundOf
-found-by true l o q e = refl
-found-by false l o q e = e
-
-pub found-lines : (f : Entry → Bool) (g : Line → Bool) (ls : List Line) → All (λ l. f (entryOf l) ≡ g l) ls → foundOf (firstOf f (map entryOf ls)) ≡ foundLine (firstOf g ls)
-unfolding firstOf foundOf
-found-lines f g [] h = refl
-found-lines f g (l ∷ ls) h =
-    ap (λ (b : Bool). foundOf (pick b (some (entryOf l)) (firstOf f (map entryOf ls)))) (h .0)
-    ∙ found-by (g l) l (firstOf f (map entryOf ls)) (firstOf g ls) (found-lines f g ls (h .1))
-
-read-shift : (p q r : Bool) → pick p (pick q r false) false ≡ pick r (pick p q false) false
-read-shift true true true = refl
-read-shift true true false = refl
-read-shift true false true = refl
-read-shift true false false = refl
-read-shift false q true = refl
-read-shift false q false = refl
-
-module _ (l : Line) (g : GoodLine l) where
-  reads-line : (c : List ℕ) → AllByte c → 1 ≤ length c → readsCode (packed c) (length c - 1) (entryOf l) ≡ pick (isRead l) (same (l .code) c) false
-  unfolding readsCode
-  reads-line c a h =
-      (λ t. pick (eqb (entry-bits l g t) (packed c)) (pick (eqb (entry-extra l g t) (length c - 1)) (entry-reads l g t) false) false)
-      ∙ read-shift (eqb (packed (l .code)) (packed c)) (eqb (length (l .code) - 1) (length c - 1)) (isRead l)
-      ∙ sym (λ t. pick (isRead l) (same-packed (l .code) c (g .proper .bytes) a (g .some-bytes) (g .few-bytes) h t) false)
-
-  writes-line : (u : ℕ) → writesPoint u (entryOf l) ≡ pick (isWritten l) (eqb (l .point) u) false
-  unfolding writesPoint
-  writes-line u = (λ t. pick (eqb (entry-point l g t) u) (entry-writes l g t) false) ∙ both-swap (eqb (l .point) u) (isWritten l)
 
 -- some line of a list, by those that are stored
 any-sorted : (f : Entry → Bool) (l : List Entry) → anyOf f (sort less l) ≡ anyOf f l
@@ -554,9 +442,9 @@ module _ (l : Line) (ls : List Line) (g : GoodLine l) (gs : All GoodLine ls) whe
       ∙ any-lines (λ x. writeClash x (entryOf l)) (λ x. sharesPoint x l) ls (all-map (λ x h. sym (shares-point x l h g)) ls gs)
 
 -- what a memory in a table's form holds
-module _ (t : Table) (p : Proper t) (k : Keeps limits t) (rec : Record) (states codes infos order : List ℕ) (f : Form limits t rec states codes infos order) where
+module _ (lim : Limits) (t : Table) (p : Proper t) (k : Keeps lim t) (rec : Record) (m : Slices) (f : Form lim t rec m) where
   good : All GoodLine (t .lines)
-  good = keeps-good limits t p k
+  good = keeps-good lim t p k
 
   pub lines-apart : AllApart (map entryOf (t .lines))
   lines-apart = t9-apart (t .lines) good (k .rule9)
@@ -565,7 +453,7 @@ module _ (t : Table) (p : Proper t) (k : Keeps limits t) (rec : Record) (states 
   unfolding recordOf
   form-count = sort-length less (map entryOf (t .lines)) ∙ length-map (t .lines) entryOf ∙ sym (ap (λ (r : Record). r .mappings) (f .record-is))
 
-  abbrev pub form-kept : Kept 2048 (rec .mappings) codes infos order
+  abbrev pub form-kept : Kept (lim .mappings) (rec .mappings) (m .codes) (m .infos) (m .order)
   form-kept = record {
     es = sorted (t .lines);
     count = form-count;
@@ -574,20 +462,8 @@ module _ (t : Table) (p : Proper t) (k : Keeps limits t) (rec : Record) (states 
     stored = f .mappings-are;
   }
 
-  pub form-held : entries (take (rec .mappings) codes) (take (rec .mappings) infos) ≡ sorted (t .lines)
-  form-held = held-is 2048 (rec .mappings) codes infos order form-kept
-
-  pub reads-stored : (c : List ℕ) → AllByte c → 1 ≤ length c → readOf (packed c) (length c - 1) (entries (take (rec .mappings) codes) (take (rec .mappings) infos)) ≡ foundLine (reader c (t .lines))
-  reads-stored c a h =
-      ap (readOf (packed c) (length c - 1)) form-held
-      ∙ read-sorted (packed c) (length c - 1) (map entryOf (t .lines)) lines-apart
-      ∙ found-lines (readsCode (packed c) (length c - 1)) (λ l. pick (isRead l) (same (l .code) c) false) (t .lines) (all-map (λ l g. reads-line l g c a h) (t .lines) good)
-
-  pub writes-stored : (u : ℕ) → writeOf u (entries (take (rec .mappings) codes) (take (rec .mappings) infos)) ≡ foundLine (writer u (t .lines))
-  writes-stored u =
-      ap (writeOf u) form-held
-      ∙ write-sorted u (map entryOf (t .lines)) lines-apart
-      ∙ found-lines (writesPoint u) (λ l. pick (isWritten l) (eqb (l .point) u) false) (t .lines) (all-map (λ l g. writes-line l g u) (t .lines) good)
+  pub form-held : entries (take (rec .mappings) (m .codes)) (take (rec .mappings) (m .infos)) ≡ sorted (t .lines)
+  form-held = held-is (lim .mappings) (rec .mappings) (m .codes) (m .infos) (m .order) form-kept
 
 -- the line that reads a code keeps a rule that all lines keep
 pub reader-keeps : (rule : Line → Bool) (code : List ℕ) (ls : List Line) (l : Line) → allOf rule ls ≡ true → reader code ls ≡ some l → rule l ≡ true

@@ -3,13 +3,15 @@ use Prim.Native.Nat.{ℕ}
 use mathlib.Core.Path.{_≡_, refl, sym, ap, subst, _∙_}
 use mathlib.Core.List.{List}
 use lib.ListN.{length, drop}
-use Rattle.table.specs.Limits.{Limits, limits}
+use Rattle.table.specs.Limits.{Limits, needed}
+use Rattle.table.specs.Cells.{Cell}
 use Rattle.table.specs.Meaning.{Line}
 use Rattle.table.specs.Codes.{packed}
+use Rattle.table.specs.Slices.{Slices, slices}
 use Rattle.table.specs.Mapping.{Form, noForm, reserved, blank, ending, mapping, codedForm}
 use Rattle.table.specs.Numbers.{lowest}
-use Rattle.table.specs.Load.{Reading, went, judged, reading, mappingStep, lastStep, phaseStep}
-use Rattle.table.specs.Progress.{Holding, Beyond, Taken, progress}
+use Rattle.table.specs.Load.{Reading, went, judged, reading, Asks, judgedBy}
+use Rattle.table.specs.Progress.{keysIn, Holding, Beyond, Taken, progress}
 use Rattle.table.specs.declared.header.Head.{Head}
 use Rattle.table.specs.declared.mapping.Mapped.{Mapped}
 use Rattle.table.specs.declared.mapping.Mapped.the-variants as coded
@@ -22,35 +24,27 @@ use Rattle.table.specs.declared.load.Went.{Went}
 use Rattle.table.specs.declared.load.Went.the-variants as outcome
 
 -- a line that is refused, and one that is let through
-pub refused-taken : (lim : Limits) (v : Verdict) (g : Reading) (x : Refusal) (s c i o : List ℕ) → v ≡ Refuse x → Taken lim (judged v g) (outcome.Stop x) s c i o
-refused-taken lim v g x s c i o e = subst (λ (w : Verdict). Taken lim (judged w g) (outcome.Stop x) s c i o) (sym e) refl
+pub refused-taken : (lim : Limits) (v : Verdict) (g : Reading) (x : Refusal) (m : Slices) → v ≡ Refuse x → Taken lim (judged v g) (outcome.Stop x) m
+refused-taken lim v g x m e = subst (λ (w : Verdict). Taken lim (judged w g) (outcome.Stop x) m) (sym e) refl
 
-pub fine-taken : (lim : Limits) (v : Verdict) (g : Reading) (q : Progress) (s c i o : List ℕ) → v ≡ Fine → q ≡ progress (g .phase) (g .head) (length (g .lines))
-    → Holding lim (g .head) (length (g .lines)) (g .rows) (g .lines) s c i o → Taken lim (judged v g) (outcome.On q) s c i o
-fine-taken lim v g q s c i o e f h = subst (λ (w : Verdict). Taken lim (judged w g) (outcome.On q) s c i o) (sym e) (ap outcome.On f, h)
+pub fine-taken : (lim : Limits) (v : Verdict) (g : Reading) (h : Head) (q : Progress) (m : Slices) → v ≡ Fine → q ≡ progress (g .phase) h (length (g .lines)) → keysIn h ≡ g .head
+    → Holding lim h (length (g .lines)) (g .rows) (g .lines) m → Taken lim (judged v g) (outcome.On q) m
+fine-taken lim v g h q m e f k held = subst (λ (w : Verdict). Taken lim (judged w g) (outcome.On q) m) (sym e) (h, ap outcome.On f, k, held)
 
 -- a line that gives nothing
-pub same-taken : (lim : Limits) (p : Phase) (h : Head) (n : ℕ) (rows : List (List ℕ)) (ls : List Line) (s c i o : List ℕ) → Holding lim h n rows ls s c i o
-    → Taken lim (went (reading p h rows ls)) (outcome.On (progress p h n)) s c i o
-same-taken lim p h n rows ls s c i o held =
+pub same-taken : (lim : Limits) (p : Phase) (h : Head) (n : ℕ) (rows : List (List Cell)) (ls : List Line) (m : Slices) → Holding lim h n rows ls m
+    → Taken lim (went (reading p (keysIn h) rows ls)) (outcome.On (progress p h n)) m
+same-taken lim p h n rows ls m held =
     let e = sym (held .lines-count) in
-    (ap (λ (k : ℕ). outcome.On (progress p h k)) e, subst (λ (k : ℕ). Holding lim h k rows ls s c i o) e held)
+    (h, ap (λ (k : ℕ). outcome.On (progress p h k)) e, refl, subst (λ (k : ℕ). Holding lim h k rows ls m) e held)
 
 -- slices that are not written
-pub beyond-states : (s s′ c i o : List ℕ) → drop 4096 s′ ≡ drop 4096 s → Beyond limits s c i o s′ c i o
-beyond-states s s′ c i o e = record { states-rest = e; codes-rest = refl; infos-rest = refl; order-rest = refl }
+pub beyond-states : (lim : Limits) (s s′ c i o : List ℕ) → drop (needed lim) s′ ≡ drop (needed lim) s → Beyond lim (slices s c i o) (slices s′ c i o)
+beyond-states lim s s′ c i o e = record { states-rest = e; codes-rest = refl; infos-rest = refl; order-rest = refl }
 
--- a phase by its name, a line behind CHARMAP by its form
-pub phase-at : (p x : Phase) (h : Head) (rows : List (List ℕ)) (ls : List Line) (line : List ℕ) (r : Went) (s c i o : List ℕ) → p ≡ x → Taken limits (phaseStep lowest limits x h rows ls line) r s c i o
-    → Taken limits (phaseStep lowest limits p h rows ls line) r s c i o
-phase-at p x h rows ls line r s c i o e k = subst (λ (y : Phase). Taken limits (phaseStep lowest limits y h rows ls line) r s c i o) (sym e) k
-
-pub mapping-at : (h : Head) (rows : List (List ℕ)) (ls : List Line) (f x : Form) (r : Went) (s c i o : List ℕ) → f ≡ x → Taken limits (mappingStep lowest limits h rows ls x) r s c i o
-    → Taken limits (mappingStep lowest limits h rows ls f) r s c i o
-mapping-at h rows ls f x r s c i o e k = subst (λ (y : Form). Taken limits (mappingStep lowest limits h rows ls y) r s c i o) (sym e) k
-
-pub last-at : (h : Head) (rows : List (List ℕ)) (ls : List Line) (f x : Form) (r : Went) (s c i o : List ℕ) → f ≡ x → Taken limits (lastStep h rows ls x) r s c i o → Taken limits (lastStep h rows ls f) r s c i o
-last-at h rows ls f x r s c i o e k = subst (λ (y : Form). Taken limits (lastStep h rows ls y) r s c i o) (sym e) k
+-- a line by what it asks
+pub asks-at : (lim : Limits) (a x : Asks) (r : Went) (m : Slices) → a ≡ x → Taken lim (judgedBy lowest x) r m → Taken lim (judgedBy lowest a) r m
+asks-at lim a x r m e k = subst (λ (y : Asks). Taken lim (judgedBy lowest y) r m) (sym e) k
 
 -- a form by what the code holds of it
 abbrev pub FormAs : Mapped → Form → Type 0

@@ -13,12 +13,13 @@ use Rattle.lists.proofs.Laws.{clash}
 use Rattle.lists.proofs.Cases.{pick-case}
 use Rattle.lists.proofs.Order.{all-map, all-in, rises-is}
 use Rattle.table.specs.Limits.{Limits}
+use Rattle.table.specs.Cells.{Cell}
 use Rattle.table.specs.Meaning.{Line}
 use Rattle.table.specs.Numbers.{Cond, cond, numberOf, isRule, lowest, inForm, keyConditions, charmapConditions, mappingConditions}
 use Rattle.table.specs.FirstLine.{NoneHolds, HoldsLowest}
 use Rattle.table.specs.declared.header.Key.{Key}
 use Rattle.table.specs.declared.header.Value.{Value}
-use Rattle.table.specs.declared.header.Head.{Head}
+use Rattle.table.specs.Keys.{Keys}
 use Rattle.table.specs.declared.load.Refusal.{Refusal}
 use Rattle.table.specs.declared.load.Verdict.the-variants.{Fine, Refuse}
 
@@ -32,15 +33,15 @@ by-number-trans b c d p q =
     lt-ltb (numberOf (b .refusal)) (numberOf (d .refusal)) (omega arith)
 
 -- the tables of document 01's numbers rise
-pub key-rises : (lim : Limits) (h : Head) (k : Key) (v : Value) → Rising byNumber (keyConditions lim h k v)
+pub key-rises : (lim : Limits) (h : Keys) (n : ℕ) (k : Key) (v : Value) → Rising byNumber (keyConditions lim h n k v)
 unfolding keyConditions rises risesFrom
-key-rises lim h k v = rises-is byNumber by-number-trans (keyConditions lim h k v) refl
+key-rises lim h n k v = rises-is byNumber by-number-trans (keyConditions lim h n k v) refl
 
-pub charmap-rises : (h : Head) (rows : List (List ℕ)) → Rising byNumber (charmapConditions h rows)
+pub charmap-rises : (h : Keys) (rows : List (List Cell)) → Rising byNumber (charmapConditions h rows)
 unfolding charmapConditions rises risesFrom
 charmap-rises h rows = rises-is byNumber by-number-trans (charmapConditions h rows) refl
 
-pub mapping-rises : (lim : Limits) (h : Head) (rows : List (List ℕ)) (ls : List Line) (l : Line) → Rising byNumber (mappingConditions lim h rows ls l)
+pub mapping-rises : (lim : Limits) (h : Keys) (rows : List (List Cell)) (ls : List Line) (l : Line) → Rising byNumber (mappingConditions lim h rows ls l)
 unfolding mappingConditions rises risesFrom
 mapping-rises lim h rows ls l = rises-is byNumber by-number-trans (mappingConditions lim h rows ls l) refl
 

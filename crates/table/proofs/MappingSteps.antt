@@ -15,18 +15,21 @@ use Rattle.lists.proofs.Choice.{always, pick-self, pick-false}
 use Rattle.lists.proofs.Chains.{bar}
 use Rattle.lists.proofs.Front.{drop-put}
 use Rattle.lists.proofs.Order.{insert-length, sort-length}
-use Rattle.table.specs.Limits.{limits}
+use Rattle.table.specs.Limits.{Limits, needed}
+use Rattle.table.specs.Cells.{Cell}
 use Rattle.table.specs.States.{Rows, stepAt, endKind}
 use Rattle.table.specs.Codes.{packed, unpacked, AllByte}
-use Rattle.table.specs.Meaning.{Line, flat, same}
+use Rattle.table.specs.Meaning.{Line, same, hasCode, writesCode, stepsOn}
 use Rattle.table.specs.Rules.{anyOf, t5, t5Kind, t6, t7, t8, t8Byte, t9, sharesBytes, sharesPoint}
 use Rattle.table.specs.Entry.{Entry, mk, bitsOf, infoOf, rankOf, entryOf, less, AllApart}
+use Rattle.table.specs.Slices.{slices}
 use Rattle.table.specs.Memory.{entries, sorted, orderOf, sub1In, Stored}
+use Rattle.table.specs.Keys.{minOf, maxOf}
 use Rattle.table.specs.Search.{readTaken, writeTaken}
 use Rattle.table.specs.Valid.{Kept}
 use Rattle.table.specs.Numbers.{cond, lowest, n20, n21, n22, n23, n24, n25, n26, mappingConditions}
 use Rattle.table.specs.Load.{judged, reading, lineAs}
-use Rattle.table.specs.Progress.{GoodLine, Holding, Taken, progress}
+use Rattle.table.specs.Progress.{keysIn, GoodLine, Holding, Taken, progress}
 use Rattle.table.specs.declared.header.Head.{Head}
 use Rattle.table.specs.declared.load.Refusal.{Refusal}
 use Rattle.table.specs.declared.load.Refusal.the-variants.{NoScalar, NoSuchCode, LeadingZero, NoSubchar1, BytesTaken, PointTaken, TooMany}
@@ -38,17 +41,19 @@ use Rattle.table.proofs.Packing.{packed-fits, unpack}
 use Rattle.table.proofs.Sorted.{order-length, sorted-rising, sorted-apart}
 use Rattle.table.proofs.Inserted.{free-next, next-held, sorted-more}
 use Rattle.table.proofs.StoreLaws.{held-is}
+use Rattle.table.proofs.Ranks.{code-or-subchar1, writes-code}
 use Rattle.table.proofs.LineLaws.{t9-apart, entry-point, read-taken-lines, write-taken-lines}
 use Rattle.table.proofs.LowestLaws.{lowest-fine}
 use Rattle.table.proofs.LineSteps.{fine-taken}
-use Rattle.table.proofs.HeaderSteps.{steps-held}
+use Rattle.table.proofs.RowLaws.{steps-filled}
+use Rattle.table.proofs.KeyLaws.{min-is, max-is}
 
 -- 20 to 23 by T6, T5, T7, T8
 abbrev verdictOf : Bool → Bool → Bool → Bool → Verdict
 verdictOf a b c d = pick (not a) (Refuse NoScalar) (pick (not b) (Refuse NoSuchCode) (pick (not c) (Refuse LeadingZero) (pick (not d) (Refuse NoSubchar1) Fine)))
 
 abbrev pub ownVerdict : Rows → Head → Line → Verdict
-ownVerdict step h l = lowest (cond NoScalar (n20 l) ∷ cond NoSuchCode (not (t5 step (h .min) (h .max) l)) ∷ cond LeadingZero (n22 l) ∷ cond NoSubchar1 (n23 h l) ∷ [])
+ownVerdict step h l = lowest (cond NoScalar (n20 l) ∷ cond NoSuchCode (not (t5 step (h .min) (h .max) l)) ∷ cond LeadingZero (n22 l) ∷ cond NoSubchar1 (n23 (keysIn h) l) ∷ [])
 
 own-is : (step : Rows) (h : Head) (l : Line) → ownVerdict step h l ≡ verdictOf (t6 l) (t5 step (h .min) (h .max) l) (t7 l) (t8 (sub1In (h .sub1)) l)
 unfolding lowest n20 n22 n23
@@ -82,8 +87,8 @@ module _ (step : Rows) (h : Head) (u d : ℕ) (c : List ℕ) (bits len : ℕ) (b
   module _ (scalar : t6 line ≡ true) (two : d ≡ 2) where
     by-8 : (b : Bool) → t8Byte (sub1In (h .sub1)) c ≡ b → verdictOf true true true b ≡ ownVerdict step h line
     by-8 b e =
-        own-at true true true b scalar (pick-yes (eqb d 2) true _ (eq-eqb d 2 two)) (pick-yes (leb 2 d) true _ (le-leb 2 d (omega arith)))
-        (pick-yes (eqb d 2) (t8Byte (sub1In (h .sub1)) c) true (eq-eqb d 2 two) ∙ e)
+        own-at true true true b scalar (ap (λ (x : ℕ). t5 step (h .min) (h .max) (lineAs u c x)) two) (ap (λ (x : ℕ). t7 (lineAs u c x)) two)
+        (ap (λ (x : ℕ). t8 (sub1In (h .sub1)) (lineAs u c x)) two ∙ e)
 
     pub own-23-none : h .sub1 ≡ 0 → Refuse NoSubchar1 ≡ ownVerdict step h line
     own-23-none e = by-8 false (ap (λ (n : ℕ). t8Byte (sub1In n) c) e)
@@ -105,12 +110,12 @@ module _ (step : Rows) (h : Head) (u d : ℕ) (c : List ℕ) (bits len : ℕ) (b
       own-2 e q = by-8 true (byte-one e ∙ eq-eqb (packed c / 16777216) (h .sub1 - 1) (ap (λ (b : ℕ). b / 16777216) (sym eb) ∙ q))
 
   -- the others
-  module _ (scalar : t6 line ≡ true) (other : d ≡ 2 → ⊥) where
+  module _ (scalar : t6 line ≡ true) (few : d ≤ 3) (other : d ≡ 2 → ⊥) where
     by-57 : (q r : Bool) → t5 step (h .min) (h .max) line ≡ q → t7 line ≡ r → verdictOf true q r true ≡ ownVerdict step h line
     by-57 q r eq er = own-at true q r true scalar eq er (pick-no (eqb d 2) _ true (ne-eqb d 2 other))
 
     five : t5 step (h .min) (h .max) line ≡ pick (leb (h .min) (length c)) (pick (leb (length c) (h .max)) (t5Kind u (endKind step 0 c)) false) false
-    five = pick-no (eqb d 2) true _ (ne-eqb d 2 other)
+    five = pick-yes (hasCode line) _ true (code-or-subchar1 line (omega arith) ∙ pick-no (eqb d 2) false true (ne-eqb d 2 other))
 
     pub own-21-long : h .max ≤ 4 → 4 < len → Refuse NoSuchCode ≡ ownVerdict step h line
     own-21-long m n =
@@ -126,18 +131,15 @@ module _ (step : Rows) (h : Head) (u d : ℕ) (c : List ℕ) (bits len : ℕ) (b
       own-21 e = by-57 false (t7 line) (code-5 ∙ e) refl
 
       pub own-3 : t ≡ true → d ≡ 3 → Fine ≡ ownVerdict step h line
-      own-3 e three = by-57 true true (code-5 ∙ e) (pick-yes (leb 2 d) true _ (le-leb 2 d (omega arith)))
+      own-3 e three = by-57 true true (code-5 ∙ e) (ap (λ (x : ℕ). t7 (lineAs u c x)) three)
 
       pub own-one : t ≡ true → len ≡ 1 → Fine ≡ ownVerdict step h line
       own-one e one =
-          by-57 true true (code-5 ∙ e) (ap (λ (b : Bool). pick (leb 2 d) true (pick b true (pick (eqb (getD c 0 0) 0) false true))) (le-leb (length c) 1 (omega arith)) ∙ always (leb 2 d))
+          by-57 true true (code-5 ∙ e) (ap (λ (b : Bool). pick (writesCode line) (pick b true (pick (eqb (getD c 0 0) 0) false true)) true) (le-leb (length c) 1 (omega arith)) ∙ always (writesCode line))
 
-      module _ (e : t ≡ true) (few : d ≤ 3) (three : d ≡ 3 → ⊥) (some-bytes : 1 ≤ len) (one : len ≡ 1 → ⊥) where
+      module _ (e : t ≡ true) (three : d ≡ 3 → ⊥) (some-bytes : 1 ≤ len) (one : len ≡ 1 → ⊥) where
         seven : t7 line ≡ pick (eqb (getD c 0 0) 0) false true
-        seven = pick-no (leb 2 d) true _ (lt-leb 2 d (under d few other three)) ∙ pick-no (leb (length c) 1) true _ (lt-leb (length c) 1 (omega arith))
-          where
-            under : (d : ℕ) → d ≤ 3 → (d ≡ 2 → ⊥) → (d ≡ 3 → ⊥) → d < 2
-            under d a b c = omega arith
+        seven = pick-yes (writesCode line) _ true (writes-code line (omega arith) other three) ∙ pick-no (leb (length c) 1) true _ (lt-leb (length c) 1 (omega arith))
 
         pub own-22 : bits / 16777216 ≡ 0 → Refuse LeadingZero ≡ ownVerdict step h line
         own-22 z = by-57 true false (code-5 ∙ e) (seven ∙ ap (λ (b : Bool). pick b false true) (eq-eqb (getD c 0 0) 0 (sym (first-byte c bytes) ∙ ap (λ (b : ℕ). b / 16777216) (sym eb) ∙ z)))
@@ -173,11 +175,11 @@ fine-first true b c d e = refl
 fine-first false b c d e = absurd (refuse-fine NoScalar e)
 
 -- the memory behind CHARMAP, and one mapping more
-module _ (h : Head) (n : ℕ) (rows : List (List ℕ)) (ls : List Line) (s c i o : List ℕ) (held : Holding limits h n rows ls s c i o) where
+module _ (lim : Limits) (h : Head) (n : ℕ) (rows : List (List Cell)) (ls : List Line) (s c i o : List ℕ) (held : Holding lim h n rows ls (slices s c i o)) where
   goods : All GoodLine ls
   goods = held .lines-good
 
-  pub held-kept : Kept 2048 n c i o
+  pub held-kept : Kept (lim .mappings) n c i o
   held-kept =
       let apart : AllApart (map entryOf ls) = t9-apart ls goods (held .lines-apart) in
       record {
@@ -190,20 +192,21 @@ module _ (h : Head) (n : ℕ) (rows : List (List ℕ)) (ls : List Line) (s c i o
 
   held-entries : entries (take n c) (take n i) ≡ sorted ls
   unfolding held-kept
-  held-entries = held-is 2048 n c i o held-kept
+  held-entries = held-is (lim .mappings) n c i o held-kept
 
-  module _ (l : Line) (own : Verdict) (own-by : own ≡ ownVerdict (stepAt (take 4096 s)) h l) where
+  module _ (l : Line) (own : Verdict) (own-by : own ≡ ownVerdict (stepAt (take (needed lim) s)) h l) where
     abbrev last : Verdict
-    last = pick (n24 ls l) (Refuse BytesTaken) (pick (n25 ls l) (Refuse PointTaken) (pick (n26 limits ls) (Refuse TooMany) Fine))
+    last = pick (n24 ls l) (Refuse BytesTaken) (pick (n25 ls l) (Refuse PointTaken) (pick (n26 lim ls) (Refuse TooMany) Fine))
 
-    verdict : lowest (mappingConditions limits h rows ls l) ≡ thenBy own last
+    verdict : lowest (mappingConditions lim (keysIn h) rows ls l) ≡ thenBy own last
     unfolding lowest mappingConditions n20 n21 n22 n23
     verdict =
-        then-by (t6 l) (t5 (stepAt (flat rows)) (h .min) (h .max) l) (t7 l) (t8 (sub1In (h .sub1)) l) last
-        ∙ ap (λ (step : Rows). thenBy (verdictOf (t6 l) (t5 step (h .min) (h .max) l) (t7 l) (t8 (sub1In (h .sub1)) l)) last) (sym (steps-held rows s (held .states-are)))
-        ∙ ap (λ (v : Verdict). thenBy v last) (sym (own-by ∙ own-is (stepAt (take 4096 s)) h l))
+        then-by (t6 l) (t5 (stepsOn rows) (minOf (keysIn h)) (maxOf (keysIn h)) l) (t7 l) (t8 (sub1In (h .sub1)) l) last
+        ∙ (λ j. thenBy (verdictOf (t6 l) (t5 (stepsOn rows) (min-is h j) (max-is h j) l) (t7 l) (t8 (sub1In (h .sub1)) l)) last)
+        ∙ ap (λ (step : Rows). thenBy (verdictOf (t6 l) (t5 step (h .min) (h .max) l) (t7 l) (t8 (sub1In (h .sub1)) l)) last) (sym (steps-filled (needed lim) rows (take (needed lim) s) (held .states-are)))
+        ∙ ap (λ (v : Verdict). thenBy v last) (sym (own-by ∙ own-is (stepAt (take (needed lim) s)) h l))
 
-    pub own-refused : (x : Refusal) → own ≡ Refuse x → lowest (mappingConditions limits h rows ls l) ≡ Refuse x
+    pub own-refused : (x : Refusal) → own ≡ Refuse x → lowest (mappingConditions lim (keysIn h) rows ls l) ≡ Refuse x
     own-refused x e = verdict ∙ ap (λ (v : Verdict). thenBy v last) e
 
     -- none of 20 to 23 holds
@@ -216,7 +219,7 @@ module _ (h : Head) (n : ℕ) (rows : List (List ℕ)) (ls : List Line) (s c i o
         proper = record { bytes = bytes; digit = omega arith };
         some-bytes = least;
         few-bytes = most;
-        scalar = fine-first (t6 l) (t5 (stepAt (take 4096 s)) (h .min) (h .max) l) (t7 l) (t8 (sub1In (h .sub1)) l) (sym (own-is (stepAt (take 4096 s)) h l) ∙ sym own-by ∙ fine);
+        scalar = fine-first (t6 l) (t5 (stepAt (take (needed lim) s)) (h .min) (h .max) l) (t7 l) (t8 (sub1In (h .sub1)) l) (sym (own-is (stepAt (take (needed lim) s)) h l) ∙ sym own-by ∙ fine);
       }
 
       reads-taken : n24 ls l ≡ readTaken (entryOf l) held-now
@@ -228,36 +231,35 @@ module _ (h : Head) (n : ℕ) (rows : List (List ℕ)) (ls : List Line) (s c i o
       writes-taken = sym (write-taken-lines l ls good goods) ∙ ap (writeTaken (entryOf l)) (sym held-entries)
 
       pub added-is : (e : Entry) (v : Verdict) → e ≡ entryOf l
-          → v ≡ pick (readTaken e held-now) (Refuse BytesTaken) (pick (writeTaken e held-now) (Refuse PointTaken) (pick (leb 2048 n) (Refuse TooMany) Fine))
-          → lowest (mappingConditions limits h rows ls l) ≡ v
+          → v ≡ pick (readTaken e held-now) (Refuse BytesTaken) (pick (writeTaken e held-now) (Refuse PointTaken) (pick (leb (lim .mappings) n) (Refuse TooMany) Fine))
+          → lowest (mappingConditions lim (keysIn h) rows ls l) ≡ v
       unfolding n26
       added-is e v q is =
           verdict ∙ ap (λ (w : Verdict). thenBy w last) fine
-          ∙ (λ t. pick (reads-taken t) (Refuse BytesTaken) (pick (writes-taken t) (Refuse PointTaken) (pick (leb 2048 (held .lines-count t)) (Refuse TooMany) Fine)))
-          ∙ ap (λ (x : Entry). pick (readTaken x held-now) (Refuse BytesTaken) (pick (writeTaken x held-now) (Refuse PointTaken) (pick (leb 2048 n) (Refuse TooMany) Fine))) (sym q)
+          ∙ (λ t. pick (reads-taken t) (Refuse BytesTaken) (pick (writes-taken t) (Refuse PointTaken) (pick (leb (lim .mappings) (held .lines-count t)) (Refuse TooMany) Fine)))
+          ∙ ap (λ (x : Entry). pick (readTaken x held-now) (Refuse BytesTaken) (pick (writeTaken x held-now) (Refuse PointTaken) (pick (leb (lim .mappings) n) (Refuse TooMany) Fine))) (sym q)
           ∙ sym is
 
-      pub more-taken : (e : Entry) (c′ i′ o′ : List ℕ) → e ≡ entryOf l → lowest (mappingConditions limits h rows ls l) ≡ Fine → Kept 2048 (n + 1) c′ i′ o′
+      pub more-taken : (e : Entry) (c′ i′ o′ : List ℕ) → e ≡ entryOf l → lowest (mappingConditions lim (keysIn h) rows ls l) ≡ Fine → Kept (lim .mappings) (n + 1) c′ i′ o′
           → entries (take (n + 1) c′) (take (n + 1) i′) ≡ insert less e held-now
-          → Taken limits (judged (lowest (mappingConditions limits h rows ls l)) (reading Mappings h rows (l ∷ ls))) (outcome.On (progress Mappings h (n + 1))) s c′ i′ o′
+          → Taken lim (judged (lowest (mappingConditions lim (keysIn h) rows ls l)) (reading Mappings (keysIn h) rows (l ∷ ls))) (outcome.On (progress Mappings h (n + 1))) (slices s c′ i′ o′)
       unfolding mappingConditions n24 n25 t9
       more-taken e c′ i′ o′ q v k ins =
-          let none = lowest-fine (mappingConditions limits h rows ls l) v in
-          let es : k .es ≡ sorted (l ∷ ls) = sym (held-is 2048 (n + 1) c′ i′ o′ k) ∙ ins ∙ (λ t. insert less (q t) (held-entries t)) ∙ sym (sorted-more l ls) in
+          let none = lowest-fine (mappingConditions lim (keysIn h) rows ls l) v in
+          let es : k .es ≡ sorted (l ∷ ls) = sym (held-is (lim .mappings) (n + 1) c′ i′ o′ k) ∙ ins ∙ (λ t. insert less (q t) (held-entries t)) ∙ sym (sorted-more l ls) in
           let m = held .lines-count in
           let count : n + 1 ≡ length (l ∷ ls) = omega arith in
-          fine-taken limits (lowest (mappingConditions limits h rows ls l)) (reading Mappings h rows (l ∷ ls)) (progress Mappings h (n + 1)) s c′ i′ o′ v (ap (λ (z : ℕ). progress Mappings h z) count)
+          fine-taken lim (lowest (mappingConditions lim (keysIn h) rows ls l)) (reading Mappings (keysIn h) rows (l ∷ ls)) h (progress Mappings h (n + 1)) (slices s c′ i′ o′) v (ap (λ (z : ℕ). progress Mappings h z) count) refl
           (record {
             head-proper = held .head-proper;
             rows-count = held .rows-count;
             rows-few = held .rows-few;
             rows-full = held .rows-full;
-            rows-known = held .rows-known;
             states-are = held .states-are;
             lines-count = refl;
             lines-good = (good, held .lines-good);
             lines-apart = bar (anyOf (λ x. sharesBytes x l) ls) _ (none .1 .1 .1 .1 .0) (bar (anyOf (λ x. sharesPoint x l) ls) _ (none .1 .1 .1 .1 .1 .0) (held .lines-apart));
-            stored = subst (λ (z : List Entry). Stored 2048 z c′ i′ o′) es (k .stored);
+            stored = subst (λ (z : List Entry). Stored (lim .mappings) z c′ i′ o′) es (k .stored);
           })
 
 -- the two numbers of a mapping
@@ -269,29 +271,29 @@ entry-same u d bits len info c eb el ei = (λ t. mk (eb t) (i t))
     i = ei ∙ ap (λ (n : ℕ). u + 2097152 * rankOf d + 16777216 * (n - 1)) el
 
 -- what insertion leaves
-module _ (n : ℕ) (c i o : List ℕ) (k : Kept 2048 n c i o) (e : Entry) (reads : readTaken e (entries (take n c) (take n i)) ≡ false) (writes : writeTaken e (entries (take n c) (take n i)) ≡ false) (room : n < 2048)
+module _ (limit n : ℕ) (c i o : List ℕ) (k : Kept limit n c i o) (e : Entry) (reads : readTaken e (entries (take n c) (take n i)) ≡ false) (writes : writeTaken e (entries (take n c) (take n i)) ≡ false) (room : n < limit)
     (c′ i′ o′ : List ℕ) (ec : c′ ≡ map bitsOf (insert less e (entries (take n c) (take n i))) ++ drop (n + 1) c)
     (ei : i′ ≡ map infoOf (insert less e (entries (take n c) (take n i))) ++ drop (n + 1) i) (eo : o′ ≡ orderOf (insert less e (entries (take n c) (take n i))) ++ drop (n + 1) o) where
   abbrev new : List Entry
   new = insert less e (entries (take n c) (take n i))
 
   new-count : length new ≡ n + 1
-  new-count = let m = insert-length less e (entries (take n c) (take n i)) in let q : length (entries (take n c) (take n i)) ≡ n = ap (λ (l : List Entry). length l) (held-is 2048 n c i o k) ∙ k .count in omega arith
+  new-count = let m = insert-length less e (entries (take n c) (take n i)) in let q : length (entries (take n c) (take n i)) ≡ n = ap (λ (l : List Entry). length l) (held-is limit n c i o k) ∙ k .count in omega arith
 
-  pub added-kept : Kept 2048 (n + 1) c′ i′ o′
+  pub added-kept : Kept limit (n + 1) c′ i′ o′
   added-kept =
-      subst (λ (x : List ℕ). Kept 2048 (n + 1) x i′ o′) (sym ec)
-      (subst (λ (x : List ℕ). Kept 2048 (n + 1) (map bitsOf new ++ drop (n + 1) c) x o′) (sym ei)
-      (subst (λ (x : List ℕ). Kept 2048 (n + 1) (map bitsOf new ++ drop (n + 1) c) (map infoOf new ++ drop (n + 1) i) x) (sym eo) (free-next n c i o k e reads writes room)))
+      subst (λ (x : List ℕ). Kept limit (n + 1) x i′ o′) (sym ec)
+      (subst (λ (x : List ℕ). Kept limit (n + 1) (map bitsOf new ++ drop (n + 1) c) x o′) (sym ei)
+      (subst (λ (x : List ℕ). Kept limit (n + 1) (map bitsOf new ++ drop (n + 1) c) (map infoOf new ++ drop (n + 1) i) x) (sym eo) (free-next limit n c i o k e reads writes room)))
 
   pub added-held : entries (take (n + 1) c′) (take (n + 1) i′) ≡ new
-  added-held = (λ t. entries (take (n + 1) (ec t)) (take (n + 1) (ei t))) ∙ next-held n c i o k e
+  added-held = (λ t. entries (take (n + 1) (ec t)) (take (n + 1) (ei t))) ∙ next-held limit n c i o k e
 
-  pub added-codes : drop 2048 c′ ≡ drop 2048 c
-  added-codes = ap (λ (x : List ℕ). drop 2048 x) ec ∙ drop-put 2048 (n + 1) (map bitsOf new) c (length-map new bitsOf ∙ new-count) (omega arith)
+  pub added-codes : drop limit c′ ≡ drop limit c
+  added-codes = ap (λ (x : List ℕ). drop limit x) ec ∙ drop-put limit (n + 1) (map bitsOf new) c (length-map new bitsOf ∙ new-count) (omega arith)
 
-  pub added-infos : drop 2048 i′ ≡ drop 2048 i
-  added-infos = ap (λ (x : List ℕ). drop 2048 x) ei ∙ drop-put 2048 (n + 1) (map infoOf new) i (length-map new infoOf ∙ new-count) (omega arith)
+  pub added-infos : drop limit i′ ≡ drop limit i
+  added-infos = ap (λ (x : List ℕ). drop limit x) ei ∙ drop-put limit (n + 1) (map infoOf new) i (length-map new infoOf ∙ new-count) (omega arith)
 
-  pub added-order : drop 2048 o′ ≡ drop 2048 o
-  added-order = ap (λ (x : List ℕ). drop 2048 x) eo ∙ drop-put 2048 (n + 1) (orderOf new) o (order-length new ∙ new-count) (omega arith)
+  pub added-order : drop limit o′ ≡ drop limit o
+  added-order = ap (λ (x : List ℕ). drop limit x) eo ∙ drop-put limit (n + 1) (orderOf new) o (order-length new ∙ new-count) (omega arith)

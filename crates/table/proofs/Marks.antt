@@ -2,27 +2,28 @@
 use Prim.Native.Nat.{ℕ, zero, suc, _+_, _-_, _*_, _/_, _%_, _<_, _≤_}
 use mathlib.Core.Path.{_≡_, refl, sym, subst, _∙_, ap}
 use mathlib.Core.Bool.{Bool, true, false, not}
-use mathlib.Core.Logic.{⊎-elim}
 use mathlib.Core.List.{List, [], _∷_, _++_, map}
 use native.Mathlib.Numerals.{add-one, sub-one}
-use native.Mathlib.Nat.{eq-or-lt-of-le, le-of-suc-le-suc}
 use native.Mathlib.Omega.{arith}
 use lib.Dec.{ltb, eqb}
 use lib.ListN.{length, getD, drop, set, replicate, getD-replicate, List·getD-eq-default}
 use lib.Seq.{getD-set-same, getD-set-other}
 use borrow.Author.Tests.{lt-ltb, le-ltb, eq-eqb, ltb-true, ltb-false, eqb-true}
 use Rattle.lists.specs.Pick.{pick}
-use Rattle.lists.specs.Order.{All}
-use Rattle.lists.proofs.Laws.{clash, not-yes}
+use Rattle.lists.specs.Order.{All, upFrom}
+use Rattle.lists.proofs.Laws.{clash}
 use Rattle.lists.proofs.Order.{all-map, map-all}
-use Rattle.table.specs.States.{Rows}
+use Rattle.lists.proofs.Numbered.{numbered, numbered-at}
+use Rattle.table.specs.Limits.{limits}
+use Rattle.table.specs.States.{Rows, longest, someBelow}
 use Rattle.table.specs.Codes.{codesOn, scan, codesFrom, before, after, packed, unpacked, codeOf, firstCode, nextOf}
-use Rattle.table.specs.Marks.{someBelow, endsOrLeads, rowAlive, alive, markAt, MarksOf, isMarked, codesMarked, codesLed, nextMarked, putFirst, Starts}
+use Rattle.table.specs.Marks.{endsOrLeads, rowAlive, alive, markAt, marksOf, isMarked, codesMarked, codesLed, nextMarked, putFirst, Starts}
 use Rattle.table.specs.declared.states.Step.{Step}
 use Rattle.table.specs.declared.states.Step.the-variants.{Illegal, Ends, Leads}
 use Rattle.table.specs.declared.states.Code.{Code}
 use Rattle.table.specs.declared.codes.Next.{Next}
 use Rattle.table.specs.declared.codes.Next.the-variants.{Found, Nothing}
+use Rattle.table.proofs.RowLaws.{some-yes, some-no, some-same}
 use Rattle.table.proofs.CodeOrder.{before-same, after-append, after-same, after-all, after-keeps}
 use Rattle.table.proofs.CodeList.{scan-end, scan-more, scan-all, scan-above, scan-start, scan-low, scan-same, scan-empty, LeadsInside}
 
@@ -186,19 +187,6 @@ module _ (marks : List ℕ) (step : Rows) where
         → firstCode (after q (codesOn (codesLed marks step f) b (step row b))) ≡ putNext b r
     leads-on e p w r d = by-mark true e ∙ ap (putNext b) (ap (λ (p : List ℕ). firstCode (after p (codesMarked marks step f n))) (sym w) ∙ d)
 
--- some number below n
-some-yes : (f : ℕ → Bool) (n k : ℕ) → k < n → f k ≡ true → someBelow f n ≡ true
-unfolding someBelow
-some-yes f zero k h e = absurd (omega arith)
-some-yes f (suc n) k h e = ⊎-elim (λ q. here (someBelow f n) (subst (λ (m : ℕ). f m ≡ true) q e)) (λ l. rw (some-yes f n k l e)) (eq-or-lt-of-le (le-of-suc-le-suc h))
-  where
-    here : (t : Bool) → f n ≡ true → pick t true (f n) ≡ true
-    here true p = refl
-    here false p = p
-
-some-no : (f : ℕ → Bool) (n : ℕ) → someBelow f n ≡ false → (k : ℕ) → k < n → f k ≡ false
-some-no f n e k h = not-yes (f k) (λ p. clash (some-yes f n k h p) e)
-
 -- the mark of a row, byte by byte
 module _ (step : Rows) (w : ℕ → Bool) (row : ℕ) where
   abbrev pub Dead : ℕ → Type 0
@@ -221,23 +209,18 @@ module _ (step : Rows) (w : ℕ → Bool) (row : ℕ) where
   live-row b x h q e = ap (λ (t : Bool). pick t 1 0) (sym (some-yes (λ y. endsOrLeads w (step row y)) 256 b h (ap (endsOrLeads w) q ∙ e)))
 
 -- a row past the last is not alive
-alive-past : (step : Rows) (f row : ℕ) → 16 ≤ row → alive step f row ≡ false
+alive-past : (step : Rows) (f row : ℕ) → limits .rows ≤ row → alive step f row ≡ false
 unfolding alive
 alive-past step zero row h = refl
-alive-past step (suc f) row h = rw (le-ltb row 16 h)
+alive-past step (suc f) row h = rw (le-ltb row (limits .rows) h)
 
-alive-in : (step : Rows) (f row : ℕ) → row < 16 → alive step (suc f) row ≡ rowAlive step (alive step f) row
+alive-in : (step : Rows) (f row : ℕ) → row < limits .rows → alive step (suc f) row ≡ rowAlive step (alive step f) row
 unfolding alive
-alive-in step f row h = rw (lt-ltb row 16 h)
-
-some-same : (f g : ℕ → Bool) → ((k : ℕ) → f k ≡ g k) → (n : ℕ) → someBelow f n ≡ someBelow g n
-unfolding someBelow
-some-same f g h zero = refl
-some-same f g h (suc n) = rw (some-same f g h n, h n)
+alive-in step f row h = rw (lt-ltb row (limits .rows) h)
 
 row-same : (step : Rows) (v w : ℕ → Bool) → ((n : ℕ) → v n ≡ w n) → (row : ℕ) → rowAlive step v row ≡ rowAlive step w row
 unfolding rowAlive
-row-same step v w h row = some-same (λ b. endsOrLeads v (step row b)) (λ b. endsOrLeads w (step row b)) (λ b. go (step row b)) 256
+row-same step v w h row = some-same (λ b. endsOrLeads v (step row b)) (λ b. endsOrLeads w (step row b)) 256 (λ b q. go (step row b))
   where
     go : (x : Step) → endsOrLeads v x ≡ endsOrLeads w x
     go Illegal = refl
@@ -261,83 +244,93 @@ mark-tells step marks f n h e = ap (λ (x : ℕ). not (eqb x 0)) (e ∙ mark-of 
 
 -- the marks told when i of them are: level by level, those of no byte first
 abbrev pub Told : Rows → List ℕ → ℕ → Type 0
-Told step marks i = (k : ℕ) → k < 64 → k % 4 * 16 + k / 4 < i → getD marks k 0 ≡ markAt step k
+Told step marks i = (k : ℕ) → k < limits .rows * longest → k % 4 * limits .rows + k / 4 < i → getD marks k 0 ≡ markAt step k
 
-pub told-none : (step : Rows) → Told step (replicate 64 0) 16
+pub told-none : (step : Rows) → Told step (replicate (limits .rows * longest) 0) (limits .rows)
 unfolding alive
 told-none step k h l =
     let z : k % 4 ≡ 0 = omega arith in
-    getD-replicate 64 k 0 0 h ∙ rw z
+    getD-replicate (limits .rows * longest) k 0 0 h ∙ rw z
 
-pub told-all : (step : Rows) (marks : List ℕ) (i : ℕ) → 64 ≤ i → Told step marks i → MarksOf step marks
-told-all step marks i h t k l = t k l (omega arith)
+pub told-all : (step : Rows) (marks : List ℕ) (i : ℕ) → length marks ≡ limits .rows * longest → limits .rows * longest ≤ i → Told step marks i → marks ≡ marksOf step
+unfolding marksOf
+told-all step marks i len h t =
+    numbered (markAt step) marks 0 (λ k l. t k (omega arith) (omega arith)) ∙ ap (λ (n : ℕ). map (markAt step) (upFrom 0 n)) len
 
-level-told : (step : Rows) (marks : List ℕ) (i f : ℕ) → length marks ≡ 64 → Told step marks i → f < 4 → f * 16 + 16 ≤ i → (n : ℕ) → isMarked marks f n ≡ alive step f n
+marks-at : (step : Rows) (k : ℕ) → k < limits .rows * longest → getD (marksOf step) k 0 ≡ markAt step k
+unfolding marksOf
+marks-at step k h = numbered-at (markAt step) (limits .rows * longest) k 0 h
+
+level-told : (step : Rows) (marks : List ℕ) (i f : ℕ) → length marks ≡ limits .rows * longest → Told step marks i → f < 4 → f * limits .rows + limits .rows ≤ i → (n : ℕ) → isMarked marks f n ≡ alive step f n
 unfolding isMarked
-level-told step marks i f len t h l n = go (ltb n 16) refl
+level-told step marks i f len t h l n = go (ltb n (limits .rows)) refl
   where
-    past : 16 ≤ n → isMarked marks f n ≡ false
+    past : limits .rows ≤ n → isMarked marks f n ≡ false
     past p =
         let l : length marks ≤ n * 4 + f = omega arith in
         rw (List·getD-eq-default marks 0 l)
 
-    go : (x : Bool) → ltb n 16 ≡ x → isMarked marks f n ≡ alive step f n
-    go true e = let p = ltb-true n 16 e in mark-tells step marks f n h (t (n * 4 + f) (omega arith) (omega arith))
-    go false e = let p = ltb-false n 16 e in past p ∙ sym (alive-past step f n p)
+    go : (x : Bool) → ltb n (limits .rows) ≡ x → isMarked marks f n ≡ alive step f n
+    go true e = let p = ltb-true n (limits .rows) e in mark-tells step marks f n h (t (n * 4 + f) (omega arith) (omega arith))
+    go false e = let p = ltb-false n (limits .rows) e in past p ∙ sym (alive-past step f n p)
 
-pub told-step : (step : Rows) (marks : List ℕ) (i v : ℕ) → length marks ≡ 64 → 16 ≤ i → i < 64 → Told step marks i
-    → v ≡ pick (rowAlive step (isMarked marks (i / 16 - 1)) (i % 16)) 1 0 → Told step (set marks (i % 16 * 4 + i / 16) v) (i + 1)
-told-step step marks i v len lo hi t e k h l = go (eqb k (i % 16 * 4 + i / 16)) refl
+pub told-step : (step : Rows) (marks : List ℕ) (i v : ℕ) → length marks ≡ limits .rows * longest → limits .rows ≤ i → i < limits .rows * longest → Told step marks i
+    → v ≡ pick (rowAlive step (isMarked marks (i / limits .rows - 1)) (i % limits .rows)) 1 0 → Told step (set marks (i % limits .rows * 4 + i / limits .rows) v) (i + 1)
+told-step step marks i v len lo hi t e k h l = go (eqb k (i % limits .rows * 4 + i / limits .rows)) refl
   where
-    here : v ≡ markAt step (i % 16 * 4 + i / 16)
+    here : v ≡ markAt step (i % limits .rows * 4 + i / limits .rows)
     here =
-        let p : suc (i / 16 - 1) ≡ i / 16 = omega arith in
-        e ∙ ap (λ (t : Bool). pick t 1 0) (row-same step (isMarked marks (i / 16 - 1)) (alive step (i / 16 - 1)) (level-told step marks i (i / 16 - 1) len t (omega arith) (omega arith)) (i % 16) ∙ sym (alive-in step (i / 16 - 1) (i % 16) (omega arith)))
-        ∙ rw p (sym (mark-of step (i % 16) (i / 16) (omega arith)))
+        let p : suc (i / limits .rows - 1) ≡ i / (limits .rows) = omega arith in
+        e ∙ ap (λ (t : Bool). pick t 1 0) (row-same step (isMarked marks (i / limits .rows - 1)) (alive step (i / limits .rows - 1)) (level-told step marks i (i / limits .rows - 1) len t (omega arith) (omega arith)) (i % limits .rows) ∙ sym (alive-in step (i / limits .rows - 1) (i % limits .rows) (omega arith)))
+        ∙ rw p (sym (mark-of step (i % limits .rows) (i / limits .rows) (omega arith)))
 
-    go : (x : Bool) → eqb k (i % 16 * 4 + i / 16) ≡ x → getD (set marks (i % 16 * 4 + i / 16) v) k 0 ≡ markAt step k
+    go : (x : Bool) → eqb k (i % limits .rows * 4 + i / limits .rows) ≡ x → getD (set marks (i % limits .rows * 4 + i / limits .rows) v) k 0 ≡ markAt step k
     go true w =
-        let s : k ≡ i % 16 * 4 + i / 16 = eqb-true k (i % 16 * 4 + i / 16) w in
-        rw s (getD-set-same marks (i % 16 * 4 + i / 16) v 0 (omega arith) ∙ here)
+        let s : k ≡ i % limits .rows * 4 + i / (limits .rows) = eqb-true k (i % limits .rows * 4 + i / limits .rows) w in
+        rw s (getD-set-same marks (i % limits .rows * 4 + i / limits .rows) v 0 (omega arith) ∙ here)
     go false w =
-        let d : ¬ (k ≡ i % 16 * 4 + i / 16) = λ s. clash (eq-eqb k (i % 16 * 4 + i / 16) s) w in
-        getD-set-other marks (i % 16 * 4 + i / 16) k v 0 d ∙ t k h (omega arith)
+        let d : ¬ (k ≡ i % limits .rows * 4 + i / limits .rows) = λ s. clash (eq-eqb k (i % limits .rows * 4 + i / limits .rows) s) w in
+        getD-set-other marks (i % limits .rows * 4 + i / limits .rows) k v 0 d ∙ t k h (omega arith)
 
 -- a row that is not alive has no codes
-dead-codes : (step : Rows) → LeadsInside step → (f row : ℕ) → row < 16 → alive step f row ≡ false → codesFrom step f row ≡ []
+dead-codes : (step : Rows) → LeadsInside (limits .rows) step → (f row : ℕ) → row < limits .rows → alive step f row ≡ false → codesFrom step f row ≡ []
 unfolding codesFrom rowAlive
 dead-codes step inside zero row lt e = refl
 dead-codes step inside (suc f) row lt e =
     let d : (b : ℕ) → b < 256 → endsOrLeads (alive step f) (step row b) ≡ false = some-no (λ b. endsOrLeads (alive step f) (step row b)) 256 (sym (alive-in step f row lt) ∙ e) in
     scan-empty (codesFrom step f) step row (λ b h. go b (dead-codes step inside f) (step row b) (λ n q. inside row b n lt h q) (d b h)) 256 0 (omega arith)
   where
-    go : (b : ℕ) → ((n : ℕ) → n < 16 → alive step f n ≡ false → codesFrom step f n ≡ []) → (x : Step) → ((n : ℕ) → x ≡ Leads n → n < 16) → endsOrLeads (alive step f) x ≡ false → codesOn (codesFrom step f) b x ≡ []
+    go : (b : ℕ) → ((n : ℕ) → n < limits .rows → alive step f n ≡ false → codesFrom step f n ≡ []) → (x : Step) → ((n : ℕ) → x ≡ Leads n → n < limits .rows) → endsOrLeads (alive step f) x ≡ false → codesOn (codesFrom step f) b x ≡ []
     go b ih Illegal i e = refl
     go b ih (Ends x) i e = absurd (clash refl e)
     go b ih (Leads n) i e = ap (map (λ s. b ∷ s)) (ih n (i n refl) e)
 
 -- with the marks of the rows alive, passing over the others leaves no code out
-marked-below : (step : Rows) (marks : List ℕ) → LeadsInside step → MarksOf step marks → (f row : ℕ) → f ≤ 4 → row < 16 → codesMarked marks step f row ≡ codesFrom step f row
-unfolding codesMarked codesFrom
-marked-below step marks inside told zero row le lt = refl
-marked-below step marks inside told (suc f) row le lt =
-    scan-same (codesLed marks step f) (codesFrom step f) step step row
-    (λ b h. go b (λ n l. marked-below step marks inside told f n (omega arith) l) (step row b) (λ n q. inside row b n lt h q)) 256 0 (omega arith)
-  where
-    led : (n : ℕ) → n < 16 → codesMarked marks step f n ≡ codesFrom step f n → (t : Bool) → alive step f n ≡ t → pick t (codesMarked marks step f n) [] ≡ codesFrom step f n
-    led n l ih true e = ih
-    led n l ih false e = sym (dead-codes step inside f n l e)
+module _ (step : Rows) (inside : LeadsInside (limits .rows) step) where
+  marked-below : (f row : ℕ) → f ≤ 4 → row < limits .rows → codesMarked (marksOf step) step f row ≡ codesFrom step f row
+  unfolding codesMarked codesFrom
+  marked-below zero row le lt = refl
+  marked-below (suc f) row le lt =
+      scan-same (codesLed (marksOf step) step f) (codesFrom step f) step step row
+      (λ b h. go b (λ n l. marked-below f n (omega arith) l) (step row b) (λ n q. inside row b n lt h q)) 256 0 (omega arith)
+    where
+      led : (n : ℕ) → n < limits .rows → codesMarked (marksOf step) step f n ≡ codesFrom step f n → (t : Bool) → alive step f n ≡ t
+          → pick t (codesMarked (marksOf step) step f n) [] ≡ codesFrom step f n
+      led n l ih true e = ih
+      led n l ih false e = sym (dead-codes step inside f n l e)
 
-    go : (b : ℕ) → ((n : ℕ) → n < 16 → codesMarked marks step f n ≡ codesFrom step f n) → (x : Step) → ((n : ℕ) → x ≡ Leads n → n < 16) → codesOn (codesLed marks step f) b x ≡ codesOn (codesFrom step f) b x
-    go b ih Illegal i = refl
-    go b ih (Ends e) i = refl
-    go b ih (Leads n) i =
-        let l : n < 16 = i n refl in
-        let t : isMarked marks f n ≡ alive step f n = mark-tells step marks f n (omega arith) (told (n * 4 + f) (omega arith)) in
-        ap (λ (x : Bool). map (λ s. b ∷ s) (pick x (codesMarked marks step f n) [])) t ∙ ap (map (λ s. b ∷ s)) (led n l (ih n l) (alive step f n) refl)
+      go : (b : ℕ) → ((n : ℕ) → n < limits .rows → codesMarked (marksOf step) step f n ≡ codesFrom step f n) → (x : Step) → ((n : ℕ) → x ≡ Leads n → n < limits .rows)
+          → codesOn (codesLed (marksOf step) step f) b x ≡ codesOn (codesFrom step f) b x
+      go b ih Illegal i = refl
+      go b ih (Ends e) i = refl
+      go b ih (Leads n) i =
+          let l : n < limits .rows = i n refl in
+          let t : isMarked (marksOf step) f n ≡ alive step f n = mark-tells step (marksOf step) f n (omega arith) (marks-at step (n * 4 + f) (omega arith)) in
+          ap (λ (x : Bool). map (λ s. b ∷ s) (pick x (codesMarked (marksOf step) step f n) [])) t
+          ∙ ap (map (λ s. b ∷ s)) (led n l (ih n l) (alive step f n) refl)
 
-pub marked-codes : (step : Rows) (marks : List ℕ) → LeadsInside step → MarksOf step marks → (row : ℕ) → row < 16 → codesMarked marks step 4 row ≡ codesFrom step 4 row
-marked-codes step marks inside told row lt = marked-below step marks inside told 4 row (omega arith) lt
+  pub marked-codes : (row : ℕ) → row < limits .rows → codesMarked (marksOf step) step 4 row ≡ codesFrom step 4 row
+  marked-codes row lt = marked-below 4 row (omega arith) lt
 
-pub next-marked : (step : Rows) (marks : List ℕ) → LeadsInside step → MarksOf step marks → (row : ℕ) (p : List ℕ) → row < 16 → nextMarked marks step row p ≡ nextOf step row p
-next-marked step marks inside told row p lt = ap (λ (l : List (List ℕ)). firstCode (after p l)) (marked-codes step marks inside told row lt)
+  pub next-marked : (row : ℕ) (p : List ℕ) → row < limits .rows → nextMarked (marksOf step) step row p ≡ nextOf step row p
+  next-marked row p lt = ap (λ (l : List (List ℕ)). firstCode (after p l)) (marked-codes row lt)

@@ -15,6 +15,7 @@ use Rattle.lists.specs.Ascii.{ascii}
 use Rattle.lists.proofs.Laws.{clash}
 use Rattle.lists.proofs.Choice.{always}
 use Rattle.table.specs.Limits.{Limits}
+use Rattle.table.specs.Cells.{Cell}
 use Rattle.table.specs.Codes.{packed}
 use Rattle.table.specs.Meaning.{Line, same}
 use Rattle.table.specs.Rules.{anyOf}
@@ -22,14 +23,14 @@ use Rattle.table.specs.Row.{columnsOf, laterColumn, overColumn}
 use Rattle.table.specs.Header.{keyOf, className, valueOf, lineOf}
 use Rattle.table.specs.Mapping.{Form, noForm, reserved, blank, ending, mapping, mappedOf, lastOf}
 use Rattle.table.specs.Numbers.{Cond, cond, numberOf, n11, n12, n14, n15, rowLater, rowOver, keyConditions, charmapConditions, mappingConditions}
-use Rattle.table.specs.Load.{Reading, lineAs}
-use Rattle.table.specs.FirstLine.{headerConditions, mappedConditions, lastConditions, phaseConditions, conditionsAt}
+use Rattle.table.specs.Load.{Reading, lineAs, headerAsks, mappingAsks, lastAsks, phaseAsks}
+use Rattle.table.specs.FirstLine.{conditionsAt}
 use Rattle.table.specs.Grammar.{CharmapLine, AnyMapping, LaterMapping, Pair, Quoted, keyText, classes, N10, Keyed, Fit, N12, LaterPair, N14, N15}
 use Rattle.table.specs.declared.header.Key.{Key}
 use Rattle.table.specs.declared.header.Key.the-variants.{CodeSetName, CurMin, CurMax, ConvClass, SubChar, SubChar1, State, Base, Other}
 use Rattle.table.specs.declared.header.Value.{Value}
 use Rattle.table.specs.declared.header.Value.the-variants.{Unfit, Any, Name, Min, Max, Class, Sub, Sub1, Later}
-use Rattle.table.specs.declared.header.Head.{Head}
+use Rattle.table.specs.Keys.{Keys}
 use Rattle.table.specs.declared.header.Line.{Line as HeaderLine}
 use Rattle.table.specs.declared.header.Line.the-variants as header
 use Rattle.table.specs.declared.load.Refusal.{Refusal}
@@ -70,26 +71,26 @@ in-exactly x b (c ∷ before) after u v = (there (in-exactly x b before after (u
     there ih (inl e) = absurd (u .0 (ap (λ (y : Cond). numberOf (y .refusal)) e))
     there ih (inr i) = ih i
 
-module _ (lim : Limits) (h : Head) (k : Key) (v : Value) where
-  in-unfit : In (cond refusal.UnfitValue true) (keyConditions lim h k v) ↔ (n12 v ≡ true)
+module _ (lim : Limits) (h : Keys) (n : ℕ) (k : Key) (v : Value) where
+  in-unfit : In (cond refusal.UnfitValue true) (keyConditions lim h n k v) ↔ (n12 v ≡ true)
   unfolding keyConditions
   in-unfit =
-      in-exactly refusal.UnfitValue (n12 v) (cond refusal.KeyAgain (n11 h k) ∷ []) (cond refusal.NotBuilt (n14 (h .rows) v) ∷ cond refusal.OutOfRange (n15 lim (h .rows) v) ∷ [])
+      in-exactly refusal.UnfitValue (n12 v) (cond refusal.KeyAgain (n11 h k) ∷ []) (cond refusal.NotBuilt (n14 n v) ∷ cond refusal.OutOfRange (n15 lim n v) ∷ [])
       (λ e. omega arith, tt) (λ e. omega arith, (λ e. omega arith, tt))
 
-  in-later : In (cond refusal.NotBuilt true) (keyConditions lim h k v) ↔ (n14 (h .rows) v ≡ true)
+  in-later : In (cond refusal.NotBuilt true) (keyConditions lim h n k v) ↔ (n14 n v ≡ true)
   unfolding keyConditions
   in-later =
-      in-exactly refusal.NotBuilt (n14 (h .rows) v) (cond refusal.KeyAgain (n11 h k) ∷ cond refusal.UnfitValue (n12 v) ∷ []) (cond refusal.OutOfRange (n15 lim (h .rows) v) ∷ [])
+      in-exactly refusal.NotBuilt (n14 n v) (cond refusal.KeyAgain (n11 h k) ∷ cond refusal.UnfitValue (n12 v) ∷ []) (cond refusal.OutOfRange (n15 lim n v) ∷ [])
       (λ e. omega arith, (λ e. omega arith, tt)) (λ e. omega arith, tt)
 
-  in-over : In (cond refusal.OutOfRange true) (keyConditions lim h k v) ↔ (n15 lim (h .rows) v ≡ true)
+  in-over : In (cond refusal.OutOfRange true) (keyConditions lim h n k v) ↔ (n15 lim n v ≡ true)
   unfolding keyConditions
   in-over =
-      in-exactly refusal.OutOfRange (n15 lim (h .rows) v) (cond refusal.KeyAgain (n11 h k) ∷ cond refusal.UnfitValue (n12 v) ∷ cond refusal.NotBuilt (n14 (h .rows) v) ∷ []) []
+      in-exactly refusal.OutOfRange (n15 lim n v) (cond refusal.KeyAgain (n11 h k) ∷ cond refusal.UnfitValue (n12 v) ∷ cond refusal.NotBuilt (n14 n v) ∷ []) []
       (λ e. omega arith, (λ e. omega arith, (λ e. omega arith, tt))) tt
 
-  not-key : NotOf refusal.NoForm (keyConditions lim h k v)
+  not-key : NotOf refusal.NoForm (keyConditions lim h n k v)
   unfolding keyConditions
   not-key = (λ e. omega arith, (λ e. omega arith, (λ e. omega arith, (λ e. omega arith, tt))))
 
@@ -309,32 +310,32 @@ module _ (w v : List ℕ) where
 
 -- ## A line before CHARMAP
 
-module _ (lim : Limits) (h : Head) (rows : List (List ℕ)) where
+module _ (lim : Limits) (h : Keys) (rows : List (List Cell)) where
   -- a number of a key's value, at the line
-  keyed-exactly : (x : Refusal) (f : Value → Bool) (P : Pair → Type 0) → ((k : Key) (v : Value) → In (cond x true) (keyConditions lim h k v) ↔ (f v ≡ true))
+  keyed-exactly : (x : Refusal) (f : Value → Bool) (P : Pair → Type 0) → ((k : Key) (v : Value) → In (cond x true) (keyConditions lim h (length rows) k v) ↔ (f v ≡ true))
       → ((w v : List ℕ) → (f (valueOf (keyOf w) v) ≡ true) ↔ P (pair w v)) → NotOf x (cond refusal.NoForm true ∷ []) → NotOf x (charmapConditions h rows) → (s : List ℕ)
-      → In (cond x true) (headerConditions lim h rows (lineOf s)) ↔ Keyed P Header s
+      → In (cond x true) (headerAsks lim h rows s (lineOf s) .conditions) ↔ Keyed P Header s
   keyed-exactly x f P at is no-form no-charmap s = (there (lineOf s) (line-written s), back)
     where
-      there : (y : HeaderLine) → LineMeans s y → In (cond x true) (headerConditions lim h rows y) → Keyed P Header s
+      there : (y : HeaderLine) → LineMeans s y → In (cond x true) (headerAsks lim h rows s y .conditions) → Keyed P Header s
       there header.NoForm m i = absurd (not-in x (cond refusal.NoForm true ∷ []) no-form i)
       there header.Blank m i = absurd i
       there header.Charmap m i = absurd (not-in x (charmapConditions h rows) no-charmap i)
       there (header.Known k v q e) (p, line, key, value, part) i =
           (p, line, is (p .key) (p .value) .0 (ap (λ (z : Key). f (valueOf z (p .value))) (sym key) ∙ ap f (sym value) ∙ at k v .0 i))
 
-      back : Keyed P Header s → In (cond x true) (headerConditions lim h rows (lineOf s))
+      back : Keyed P Header s → In (cond x true) (headerAsks lim h rows s (lineOf s) .conditions)
       back (p, line, c) =
           let told = key-line-reads p s line in
-          subst (λ (y : HeaderLine). In (cond x true) (headerConditions lim h rows y)) (sym (told .line))
+          subst (λ (y : HeaderLine). In (cond x true) (headerAsks lim h rows s y .conditions)) (sym (told .line))
           (at (keyOf (p .key)) (valueOf (keyOf (p .key)) (p .value)) .1 (is (p .key) (p .value) .1 c))
 
   -- 10
-  header-ten : (s : List ℕ) → In (cond refusal.NoForm true) (headerConditions lim h rows (lineOf s)) ↔ N10 Header s
+  header-ten : (s : List ℕ) → In (cond refusal.NoForm true) (headerAsks lim h rows s (lineOf s) .conditions) ↔ N10 Header s
   unfolding charmapConditions
   header-ten s = (there (lineOf s) refl, back (lineOf s) (line-written s))
     where
-      there : (y : HeaderLine) → lineOf s ≡ y → In (cond refusal.NoForm true) (headerConditions lim h rows y) → N10 Header s
+      there : (y : HeaderLine) → lineOf s ≡ y → In (cond refusal.NoForm true) (headerAsks lim h rows s y .conditions) → N10 Header s
       there header.NoForm e i = (
         λ b. (let k : header.NoForm ≡ header.Blank = sym e ∙ blank-line-reads s b in let z : _≡_ {A = ℕ} 0 1 = cc in omega arith),
         λ c. (let k : header.NoForm ≡ header.Charmap = sym e ∙ charmap-line-reads s c in let z : _≡_ {A = ℕ} 0 1 = cc in omega arith),
@@ -344,9 +345,9 @@ module _ (lim : Limits) (h : Head) (rows : List (List ℕ)) where
       )
       there header.Blank e i = absurd i
       there header.Charmap e i = absurd (not-in refusal.NoForm (charmapConditions h rows) (λ z. omega arith, (λ z. omega arith, tt)) i)
-      there (header.Known k v q z) e i = absurd (not-in refusal.NoForm (keyConditions lim h k v) (not-key lim h k v) i)
+      there (header.Known k v q z) e i = absurd (not-in refusal.NoForm (keyConditions lim h (length rows) k v) (not-key lim h (length rows) k v) i)
 
-      back : (y : HeaderLine) → LineMeans s y → N10 Header s → In (cond refusal.NoForm true) (headerConditions lim h rows y)
+      back : (y : HeaderLine) → LineMeans s y → N10 Header s → In (cond refusal.NoForm true) (headerAsks lim h rows s y .conditions)
       back header.NoForm m n = inl refl
       back header.Blank m n = absurd (n .0 m)
       back header.Charmap m n = absurd (n .1 m)
@@ -363,16 +364,16 @@ no-form-mapped (u ∷ us) c joined plus d s m e = by-form (pick (eqb (several 0 
     by-form false true k = let z : _≡_ {A = ℕ} 0 1 = cc in omega arith
     by-form false false k = let z : _≡_ {A = ℕ} 0 1 = cc in omega arith
 
-module _ (lim : Limits) (h : Head) (rows : List (List ℕ)) (ls : List Line) where
+module _ (lim : Limits) (h : Keys) (rows : List (List Cell)) (ls : List Line) where
   not-mapped : (x : Refusal) → numberOf x < 20 → (l : Line) → NotOf x (mappingConditions lim h rows ls l)
   unfolding mappingConditions
   not-mapped x n l =
       (λ e. omega arith, (λ e. omega arith, (λ e. omega arith, (λ e. omega arith, (λ e. omega arith, (λ e. omega arith, (λ e. omega arith, tt)))))))
 
-  body-ten : (s : List ℕ) → In (cond refusal.NoForm true) (mappedConditions lim h rows ls (mappedOf s)) ↔ N10 Mappings s
+  body-ten : (s : List ℕ) → In (cond refusal.NoForm true) (mappingAsks lim h rows ls (mappedOf s) .conditions) ↔ N10 Mappings s
   body-ten s = (there (mappedOf s) refl, back (mappedOf s) (form-written s))
     where
-      there : (f : Form) → mappedOf s ≡ f → In (cond refusal.NoForm true) (mappedConditions lim h rows ls f) → N10 Mappings s
+      there : (f : Form) → mappedOf s ≡ f → In (cond refusal.NoForm true) (mappingAsks lim h rows ls f .conditions) → N10 Mappings s
       there noForm e i = (
         λ b. (let k : noForm ≡ blank = sym e ∙ blank-body s b in let z : _≡_ {A = ℕ} 0 1 = cc in omega arith),
         λ c. (let k : noForm ≡ reserved = sym e ∙ charmap-body s c in let z : _≡_ {A = ℕ} 0 1 = cc in omega arith),
@@ -384,7 +385,7 @@ module _ (lim : Limits) (h : Head) (rows : List (List ℕ)) (ls : List Line) whe
       there ending e i = absurd i
       there (mapping u c d) e i = absurd (not-in refusal.NoForm (mappingConditions lim h rows ls (lineAs u c d)) (not-mapped refusal.NoForm (omega arith) (lineAs u c d)) i)
 
-      back : (f : Form) → FormMeans s f → N10 Mappings s → In (cond refusal.NoForm true) (mappedConditions lim h rows ls f)
+      back : (f : Form) → FormMeans s f → N10 Mappings s → In (cond refusal.NoForm true) (mappingAsks lim h rows ls f .conditions)
       back noForm m n = inl refl
       back reserved (inl m) n = absurd (n .1 m)
       back reserved (inr (us, c, joined, plus, d, m, z)) n = absurd (n .3 us c joined plus d m)
@@ -392,26 +393,26 @@ module _ (lim : Limits) (h : Head) (rows : List (List ℕ)) (ls : List Line) whe
       back ending m n = absurd (n .2 m)
       back (mapping u c d) (z, m) n = absurd (n .3 (u ∷ []) c false false d m)
 
-  body-fourteen : (s : List ℕ) → In (cond refusal.NotBuilt true) (mappedConditions lim h rows ls (mappedOf s)) ↔ (CharmapLine s ⊎ LaterMapping s)
+  body-fourteen : (s : List ℕ) → In (cond refusal.NotBuilt true) (mappingAsks lim h rows ls (mappedOf s) .conditions) ↔ (CharmapLine s ⊎ LaterMapping s)
   body-fourteen s = (there (mappedOf s) (form-written s), back)
     where
-      there : (f : Form) → FormMeans s f → In (cond refusal.NotBuilt true) (mappedConditions lim h rows ls f) → CharmapLine s ⊎ LaterMapping s
+      there : (f : Form) → FormMeans s f → In (cond refusal.NotBuilt true) (mappingAsks lim h rows ls f .conditions) → CharmapLine s ⊎ LaterMapping s
       there noForm m i = absurd (not-in refusal.NotBuilt (cond refusal.NoForm true ∷ []) (λ z. omega arith, tt) i)
       there reserved m i = m
       there blank m i = absurd i
       there ending m i = absurd i
       there (mapping u c d) m i = absurd (not-in refusal.NotBuilt (mappingConditions lim h rows ls (lineAs u c d)) (not-mapped refusal.NotBuilt (omega arith) (lineAs u c d)) i)
 
-      reserved-in : mappedOf s ≡ reserved → In (cond refusal.NotBuilt true) (mappedConditions lim h rows ls (mappedOf s))
-      reserved-in e = subst (λ (f : Form). In (cond refusal.NotBuilt true) (mappedConditions lim h rows ls f)) (sym e) (inl refl)
+      reserved-in : mappedOf s ≡ reserved → In (cond refusal.NotBuilt true) (mappingAsks lim h rows ls (mappedOf s) .conditions)
+      reserved-in e = subst (λ (f : Form). In (cond refusal.NotBuilt true) (mappingAsks lim h rows ls f .conditions)) (sym e) (inl refl)
 
-      back : CharmapLine s ⊎ LaterMapping s → In (cond refusal.NotBuilt true) (mappedConditions lim h rows ls (mappedOf s))
+      back : CharmapLine s ⊎ LaterMapping s → In (cond refusal.NotBuilt true) (mappingAsks lim h rows ls (mappedOf s) .conditions)
       back (inl c) = reserved-in (charmap-body s c)
       back (inr m) = reserved-in (later-mapping-reads s m)
 
   -- a refusal of header lines alone
   body-none : (x : Refusal) → NotOf x (cond refusal.NoForm true ∷ []) → NotOf x (cond refusal.NotBuilt true ∷ []) → numberOf x < 20 → (f : Form)
-      → In (cond x true) (mappedConditions lim h rows ls f) → ⊥
+      → In (cond x true) (mappingAsks lim h rows ls f .conditions) → ⊥
   body-none x a b n noForm i = not-in x (cond refusal.NoForm true ∷ []) a i
   body-none x a b n reserved i = not-in x (cond refusal.NotBuilt true ∷ []) b i
   body-none x a b n blank i = i
@@ -420,73 +421,74 @@ module _ (lim : Limits) (h : Head) (rows : List (List ℕ)) (ls : List Line) whe
 
 -- ## A line behind END CHARMAP
 
-last-ten : (s : List ℕ) → In (cond refusal.NoForm true) (lastConditions (lastOf s)) ↔ N10 Ended s
-last-ten s = (λ i. there (lastOf s) refl (last-written s) i, back (lastOf s) (last-written s))
-  where
-    there : (f : Form) → lastOf s ≡ f → LastMeans s f → In (cond refusal.NoForm true) (lastConditions f) → N10 Ended s
-    there noForm e m i = (
-      λ b. (let k : noForm ≡ blank = sym e ∙ blank-last s b in let z : _≡_ {A = ℕ} 0 1 = cc in omega arith),
-      λ c. (let k : noForm ≡ reserved = sym e ∙ charmap-last s c in let z : _≡_ {A = ℕ} 0 1 = cc in omega arith),
-    )
-    there reserved e m i = absurd (not-in refusal.NoForm (cond refusal.NotBuilt true ∷ []) (λ z. omega arith, tt) i)
-    there blank e m i = absurd i
-    there ending e m i = absurd m
-    there (mapping u c d) e m i = absurd m
+module _ (h : Keys) (rows : List (List Cell)) (ls : List Line) where
+  last-ten : (s : List ℕ) → In (cond refusal.NoForm true) (lastAsks h rows ls (lastOf s) .conditions) ↔ N10 Ended s
+  last-ten s = (λ i. there (lastOf s) refl (last-written s) i, back (lastOf s) (last-written s))
+    where
+      there : (f : Form) → lastOf s ≡ f → LastMeans s f → In (cond refusal.NoForm true) (lastAsks h rows ls f .conditions) → N10 Ended s
+      there noForm e m i = (
+        λ b. (let k : noForm ≡ blank = sym e ∙ blank-last s b in let z : _≡_ {A = ℕ} 0 1 = cc in omega arith),
+        λ c. (let k : noForm ≡ reserved = sym e ∙ charmap-last s c in let z : _≡_ {A = ℕ} 0 1 = cc in omega arith),
+      )
+      there reserved e m i = absurd (not-in refusal.NoForm (cond refusal.NotBuilt true ∷ []) (λ z. omega arith, tt) i)
+      there blank e m i = absurd i
+      there ending e m i = absurd m
+      there (mapping u c d) e m i = absurd m
 
-    back : (f : Form) → LastMeans s f → N10 Ended s → In (cond refusal.NoForm true) (lastConditions f)
-    back noForm m n = inl refl
-    back reserved m n = absurd (n .1 m)
-    back blank m n = absurd (n .0 m)
-    back ending m n = absurd m
-    back (mapping u c d) m n = absurd m
+      back : (f : Form) → LastMeans s f → N10 Ended s → In (cond refusal.NoForm true) (lastAsks h rows ls f .conditions)
+      back noForm m n = inl refl
+      back reserved m n = absurd (n .1 m)
+      back blank m n = absurd (n .0 m)
+      back ending m n = absurd m
+      back (mapping u c d) m n = absurd m
 
-last-fourteen : (s : List ℕ) → In (cond refusal.NotBuilt true) (lastConditions (lastOf s)) ↔ CharmapLine s
-last-fourteen s = (there (lastOf s) (last-written s), λ c. subst (λ (f : Form). In (cond refusal.NotBuilt true) (lastConditions f)) (sym (charmap-last s c)) (inl refl))
-  where
-    there : (f : Form) → LastMeans s f → In (cond refusal.NotBuilt true) (lastConditions f) → CharmapLine s
-    there noForm m i = absurd (not-in refusal.NotBuilt (cond refusal.NoForm true ∷ []) (λ z. omega arith, tt) i)
-    there reserved m i = m
-    there blank m i = absurd i
-    there ending m i = absurd m
-    there (mapping u c d) m i = absurd m
+  last-fourteen : (s : List ℕ) → In (cond refusal.NotBuilt true) (lastAsks h rows ls (lastOf s) .conditions) ↔ CharmapLine s
+  last-fourteen s = (there (lastOf s) (last-written s), λ c. subst (λ (f : Form). In (cond refusal.NotBuilt true) (lastAsks h rows ls f .conditions)) (sym (charmap-last s c)) (inl refl))
+    where
+      there : (f : Form) → LastMeans s f → In (cond refusal.NotBuilt true) (lastAsks h rows ls f .conditions) → CharmapLine s
+      there noForm m i = absurd (not-in refusal.NotBuilt (cond refusal.NoForm true ∷ []) (λ z. omega arith, tt) i)
+      there reserved m i = m
+      there blank m i = absurd i
+      there ending m i = absurd m
+      there (mapping u c d) m i = absurd m
 
-last-none : (x : Refusal) → NotOf x (cond refusal.NoForm true ∷ []) → NotOf x (cond refusal.NotBuilt true ∷ []) → (f : Form) → In (cond x true) (lastConditions f) → ⊥
-last-none x a b noForm i = not-in x (cond refusal.NoForm true ∷ []) a i
-last-none x a b reserved i = not-in x (cond refusal.NotBuilt true ∷ []) b i
-last-none x a b blank i = i
-last-none x a b ending i = not-in x (cond refusal.NoForm true ∷ []) a i
-last-none x a b (mapping u c d) i = not-in x (cond refusal.NoForm true ∷ []) a i
+  last-none : (x : Refusal) → NotOf x (cond refusal.NoForm true ∷ []) → NotOf x (cond refusal.NotBuilt true ∷ []) → (f : Form) → In (cond x true) (lastAsks h rows ls f .conditions) → ⊥
+  last-none x a b noForm i = not-in x (cond refusal.NoForm true ∷ []) a i
+  last-none x a b reserved i = not-in x (cond refusal.NotBuilt true ∷ []) b i
+  last-none x a b blank i = i
+  last-none x a b ending i = not-in x (cond refusal.NoForm true ∷ []) a i
+  last-none x a b (mapping u c d) i = not-in x (cond refusal.NoForm true ∷ []) a i
 
 -- ## Any line, given what was read before it
 
-module _ (lim : Limits) (h : Head) (rows : List (List ℕ)) (ls : List Line) (s : List ℕ) where
-  ten-at : (p : Phase) → In (cond refusal.NoForm true) (phaseConditions lim p h rows ls s) ↔ N10 p s
+module _ (lim : Limits) (h : Keys) (rows : List (List Cell)) (ls : List Line) (s : List ℕ) where
+  ten-at : (p : Phase) → In (cond refusal.NoForm true) (phaseAsks lim p h rows ls s .conditions) ↔ N10 p s
   ten-at Header = header-ten lim h rows s
   ten-at Mappings = body-ten lim h rows ls s
-  ten-at Ended = last-ten s
+  ten-at Ended = last-ten h rows ls s
 
-  twelve-at : (p : Phase) → In (cond refusal.UnfitValue true) (phaseConditions lim p h rows ls s) ↔ Keyed N12 p s
+  twelve-at : (p : Phase) → In (cond refusal.UnfitValue true) (phaseAsks lim p h rows ls s .conditions) ↔ Keyed N12 p s
   unfolding charmapConditions
   twelve-at Header =
-      keyed-exactly lim h rows refusal.UnfitValue n12 N12 (in-unfit lim h) twelve-pair (λ e. omega arith, tt) (λ e. omega arith, (λ e. omega arith, tt)) s
+      keyed-exactly lim h rows refusal.UnfitValue n12 N12 (in-unfit lim h (length rows)) twelve-pair (λ e. omega arith, tt) (λ e. omega arith, (λ e. omega arith, tt)) s
   twelve-at Mappings = (body-none lim h rows ls refusal.UnfitValue (λ e. omega arith, tt) (λ e. omega arith, tt) (omega arith) (mappedOf s), λ x. absurd x)
-  twelve-at Ended = (last-none refusal.UnfitValue (λ e. omega arith, tt) (λ e. omega arith, tt) (lastOf s), λ x. absurd x)
+  twelve-at Ended = (last-none h rows ls refusal.UnfitValue (λ e. omega arith, tt) (λ e. omega arith, tt) (lastOf s), λ x. absurd x)
 
-  fourteen-at : (p : Phase) → In (cond refusal.NotBuilt true) (phaseConditions lim p h rows ls s) ↔ N14 p (h .rows) s
+  fourteen-at : (p : Phase) → In (cond refusal.NotBuilt true) (phaseAsks lim p h rows ls s .conditions) ↔ N14 p (length rows) s
   unfolding charmapConditions
   fourteen-at Header =
-      keyed-exactly lim h rows refusal.NotBuilt (n14 (h .rows)) (LaterPair (h .rows)) (in-later lim h) (λ w v. fourteen-pair w v (h .rows))
+      keyed-exactly lim h rows refusal.NotBuilt (n14 (length rows)) (LaterPair (length rows)) (in-later lim h (length rows)) (λ w v. fourteen-pair w v (length rows))
       (λ e. omega arith, tt) (λ e. omega arith, (λ e. omega arith, tt)) s
   fourteen-at Mappings = body-fourteen lim h rows ls s
-  fourteen-at Ended = last-fourteen s
+  fourteen-at Ended = last-fourteen h rows ls s
 
-  fifteen-at : (p : Phase) → In (cond refusal.OutOfRange true) (phaseConditions lim p h rows ls s) ↔ Keyed (N15 (lim .rows) (h .rows)) p s
+  fifteen-at : (p : Phase) → In (cond refusal.OutOfRange true) (phaseAsks lim p h rows ls s .conditions) ↔ Keyed (N15 (lim .rows) (length rows)) p s
   unfolding charmapConditions
   fifteen-at Header =
-      keyed-exactly lim h rows refusal.OutOfRange (n15 lim (h .rows)) (N15 (lim .rows) (h .rows)) (in-over lim h) (λ w v. fifteen-pair w v lim (h .rows))
+      keyed-exactly lim h rows refusal.OutOfRange (n15 lim (length rows)) (N15 (lim .rows) (length rows)) (in-over lim h (length rows)) (λ w v. fifteen-pair w v lim (length rows))
       (λ e. omega arith, tt) (λ e. omega arith, (λ e. omega arith, tt)) s
   fifteen-at Mappings = (body-none lim h rows ls refusal.OutOfRange (λ e. omega arith, tt) (λ e. omega arith, tt) (omega arith) (mappedOf s), λ x. absurd x)
-  fifteen-at Ended = (last-none refusal.OutOfRange (λ e. omega arith, tt) (λ e. omega arith, tt) (lastOf s), λ x. absurd x)
+  fifteen-at Ended = (last-none h rows ls refusal.OutOfRange (λ e. omega arith, tt) (λ e. omega arith, tt) (lastOf s), λ x. absurd x)
 
 module _ (lim : Limits) (r : Reading) (s : List ℕ) where
   -- 10 IS 'OF NO FORM'
@@ -498,8 +500,8 @@ module _ (lim : Limits) (r : Reading) (s : List ℕ) where
   twelve-exactly = twelve-at lim (r .head) (r .rows) (r .lines) s (r .phase)
 
   -- 14 and 15 are the forms that they name
-  pub fourteen-exactly : In (cond refusal.NotBuilt true) (conditionsAt lim r s) ↔ N14 (r .phase) (r .head .rows) s
+  pub fourteen-exactly : In (cond refusal.NotBuilt true) (conditionsAt lim r s) ↔ N14 (r .phase) (length (r .rows)) s
   fourteen-exactly = fourteen-at lim (r .head) (r .rows) (r .lines) s (r .phase)
 
-  pub fifteen-exactly : In (cond refusal.OutOfRange true) (conditionsAt lim r s) ↔ Keyed (N15 (lim .rows) (r .head .rows)) (r .phase) s
+  pub fifteen-exactly : In (cond refusal.OutOfRange true) (conditionsAt lim r s) ↔ Keyed (N15 (lim .rows) (length (r .rows))) (r .phase) s
   fifteen-exactly = fifteen-at lim (r .head) (r .rows) (r .lines) s (r .phase)

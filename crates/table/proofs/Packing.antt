@@ -8,6 +8,7 @@ use lib.Dec.{eqb}
 use lib.ListN.{length}
 use borrow.Author.Tests.{eqb-true, eq-eqb}
 use Rattle.lists.specs.Pick.{pick}
+use Rattle.lists.specs.Order.{All}
 use Rattle.table.specs.Codes.{packed, unpacked, AllByte}
 use Rattle.table.specs.Entry.{padded}
 
@@ -35,6 +36,12 @@ pub unpacked-more : (n v : ℕ) → 0 < n → unpacked n v ≡ v / 16777216 ∷ 
 unfolding unpacked
 unpacked-more zero v h = absurd (omega arith)
 unpacked-more (suc n) v h = let e : suc n - 1 ≡ n = omega arith in rw e
+
+-- numbers below 256 are bytes
+pub all-bytes : (s : List ℕ) → All (λ b. b < 256) s → AllByte s
+unfolding AllByte
+all-bytes [] h = tt
+all-bytes (b ∷ s) h = (h .0, all-bytes s (h .1))
 
 pub unpacked-bytes : (n bits : ℕ) → bits < 4294967296 → AllByte (unpacked n bits)
 unfolding unpacked AllByte

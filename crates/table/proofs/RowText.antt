@@ -1,31 +1,29 @@
 -- Laws of state rows as text: reading on from an entry, painting it, the row that is left.
 use mathlib.Core.Path.{_≡_, refl, sym, ap, _∙_}
 use mathlib.Core.Bool.{Bool, true, false, _||_}
-use mathlib.Core.List.{List, [], _∷_, _++_, append-nil}
+use mathlib.Core.List.{List, [], _∷_, _++_, append-nil, map, map-append}
 use Prim.Native.Nat.{ℕ, zero, suc, _+_, _-_, _<_, _≤_}
 use native.Mathlib.Numerals.{add-one}
 use native.Mathlib.Omega.{arith}
 use lib.Dec.{ltb, leb, eqb}
 use lib.ListN.{length, getD, take, drop, set, replicate, length-append, length-drop, length-replicate, take-append-drop, drop-of-length-le}
 use lib.Seq.{take-suc-set, drop-set-lt, append-snoc, length-take-le}
-use borrow.Author.Tests.{le-leb, leb-false, leb-true, ltb-true}
+use borrow.Author.Tests.{leb-false, leb-true, ltb-true}
 use Rattle.lists.specs.Pick.{pick}
 use Rattle.lists.specs.Order.{All}
 use Rattle.lists.proofs.Laws.{tests}
 use Rattle.lists.proofs.Cases.{pick-case}
 use Rattle.lists.proofs.Choice.{pick-self}
-use Rattle.lists.proofs.Append.{all-append}
-use Rattle.lists.proofs.Parts.{left-step}
-use Rattle.lists.proofs.AllParts.{all-take, all-drop, all-same}
+use Rattle.lists.proofs.Parts.{left-step, map-take, map-drop, map-replicate}
 use Rattle.table.specs.declared.text.Num.{Num}
 use Rattle.table.specs.declared.text.Num.the-variants.{Val, Bad}
 use Rattle.table.specs.declared.header.Item.the-variants.{Wrong, More, Last}
 use Rattle.table.specs.declared.header.Column.{Column}
 use Rattle.table.specs.declared.header.Item.{Item}
+use Rattle.table.specs.Cells.{illegal, cellNumber}
 use Rattle.table.specs.Text.{digitOf, byteOf, skipAt, numberAt, Within, Keeps}
 use Rattle.table.specs.Row.{toAt, nextAt, endAt, itemSep, itemEnd, itemNext, itemTo, itemFrom, itemAt, columnsGo, wellGo, columnsAt, meaning, spread, painted, openAt, columnsFrom, columnsOf, rowOf, putRow}
 use Rattle.table.specs.Rules.{anyOf}
-use Rattle.table.specs.Memory.{known}
 use Rattle.table.proofs.TextLaws.{scan, Forth}
 
 -- an entry more, the last one, or none: whether one so far has a form
@@ -61,24 +59,26 @@ unfolding wellGo
 well-wrong zero s = refl
 well-wrong (suc f) s = refl
 
-pub paint-more : (f : ℕ) (s : List ℕ) (e : Column) (q : ℕ) (row : List ℕ) →
-    painted (columnsGo (suc f) s (More e q)) row ≡ painted (columnsGo f s (itemAt s q)) (spread (e .lo) (e .hi) (meaning e) row)
-unfolding painted columnsGo
-paint-more f s e q row = refl
+-- painting from an item on
+module _ {A : Type 0} (value : Column → A) where
+  pub paint-more : (f : ℕ) (s : List ℕ) (e : Column) (q : ℕ) (row : List A) →
+      painted value (columnsGo (suc f) s (More e q)) row ≡ painted value (columnsGo f s (itemAt s q)) (spread (e .lo) (e .hi) (value e) row)
+  unfolding painted columnsGo
+  paint-more f s e q row = refl
 
-pub paint-last : (f : ℕ) (s : List ℕ) (e : Column) (row : List ℕ) →
-    painted (columnsGo f s (Last e)) row ≡ spread (e .lo) (e .hi) (meaning e) row
-unfolding painted columnsGo
-paint-last zero s e row = refl
-paint-last (suc f) s e row = refl
+  pub paint-last : (f : ℕ) (s : List ℕ) (e : Column) (row : List A) →
+      painted value (columnsGo f s (Last e)) row ≡ spread (e .lo) (e .hi) (value e) row
+  unfolding painted columnsGo
+  paint-last zero s e row = refl
+  paint-last (suc f) s e row = refl
 
-pub paint-wrong : (f : ℕ) (s : List ℕ) (row : List ℕ) → painted (columnsGo f s Wrong) row ≡ row
-unfolding painted columnsGo
-paint-wrong zero s row = refl
-paint-wrong (suc f) s row = refl
+  pub paint-wrong : (f : ℕ) (s : List ℕ) (row : List A) → painted value (columnsGo f s Wrong) row ≡ row
+  unfolding painted columnsGo
+  paint-wrong zero s row = refl
+  paint-wrong (suc f) s row = refl
 
 -- one place more
-pub spread-step : (i to v : ℕ) (l : List ℕ) → i ≤ to → to < length l → spread i to v l ≡ spread (i + 1) to v (set l i v)
+pub spread-step : {A : Type 0} (i to : ℕ) (v : A) (l : List A) → i ≤ to → to < length l → spread i to v l ≡ spread (i + 1) to v (set l i v)
 unfolding spread
 spread-step i to v l le lt =
     let li : i < length l = omega arith in
@@ -88,7 +88,7 @@ spread-step i to v l le lt =
     let b : i + 1 + (to + 1 - (i + 1)) ≡ to + 1 = omega arith in
     rw (a, b, drop-set-lt (to + 1) l i v ni, tk, append-snoc, left-step (to + 1) i ni)
 
-pub spread-end : (i to v : ℕ) (l : List ℕ) → to < i → spread i to v l ≡ l
+pub spread-end : {A : Type 0} (i to : ℕ) (v : A) (l : List A) → to < i → spread i to v l ≡ l
 unfolding spread
 spread-end i to v l h =
     let a : to + 1 - i ≡ 0 = omega arith in
@@ -107,7 +107,7 @@ pub sep-wrong : (s : List ℕ) (e : Column) (q : ℕ) → q < length s → (getD
 unfolding itemSep
 sep-wrong s e q h g = search scan
 
-spread-whole : (m v : ℕ) (l : List ℕ) → length l ≡ m + 1 → spread 0 m v l ≡ replicate (m + 1) v
+spread-whole : {A : Type 0} (m : ℕ) (v : A) (l : List A) → length l ≡ m + 1 → spread 0 m v l ≡ replicate (m + 1) v
 unfolding spread
 spread-whole m v l e =
     let d : drop (0 + (m + 1 - 0)) l ≡ [] = drop-of-length-le l {i = 0 + (m + 1 - 0)} (omega arith) in
@@ -129,18 +129,41 @@ columns-val : (s : List ℕ) (p k q : ℕ) → p ≡ skipAt s 0 → p < length s
 unfolding columnsOf columnsFrom
 columns-val s p k q e h o = search (tests, ← e, o)
 
-pub take-none : (s l : List ℕ) (p : ℕ) → length l ≡ 256 → p ≡ skipAt s 0 → length s ≤ p → spread 0 255 0 l ≡ rowOf (columnsOf s)
-unfolding rowOf painted
-take-none s l p len e h = rw (columns-none s p e h, spread-all l len)
+-- a row painted with cells, and with their numbers
+spread-map : {A B : Type 0} (f : A → B) (from to : ℕ) (v : A) (l : List A) → map f (spread from to v l) ≡ spread from to (f v) (map f l)
+unfolding spread
+spread-map f from to v l =
+    let n : ℕ = to + 1 - from in
+    map-append f (take from l) (replicate n v ++ drop (from + n) l)
+    ∙ (λ i. map-take f from l i ++ (map-append f (replicate n v) (drop (from + n) l) ∙ (λ j. map-replicate f n v j ++ map-drop f (from + n) l j)) i)
 
-pub take-bad : (s l : List ℕ) (p : ℕ) → length l ≡ 256 → p ≡ skipAt s 0 → p < length s → openAt s p ≡ Bad → spread 0 255 0 l ≡ rowOf (columnsOf s)
-unfolding rowOf painted
-take-bad s l p len e h o = rw (columns-bad s p e h o, spread-all l len)
+painted-map : {A B : Type 0} (f : A → B) (value : Column → A) (es : List Column) (row : List A)
+    → map f (painted value es row) ≡ painted (λ e. f (value e)) es (map f row)
+unfolding painted
+painted-map f value [] row = refl
+painted-map {A} {B} f value (e ∷ es) row =
+    painted-map f value es (spread (e .lo) (e .hi) (value e) row)
+    ∙ ap (λ (l : List B). painted (λ x. f (value x)) es l) (spread-map f (e .lo) (e .hi) (value e) row)
+
+numbers-painted : (es : List Column) → painted (λ e. cellNumber (meaning e)) es (replicate 256 0) ≡ map cellNumber (rowOf es)
+unfolding rowOf
+numbers-painted es =
+    sym (painted-map cellNumber meaning es (replicate 256 illegal)
+    ∙ ap (λ (l : List ℕ). painted (λ e. cellNumber (meaning e)) es l) (map-replicate cellNumber 256 illegal))
+
+none-painted : (s l : List ℕ) → length l ≡ 256 → columnsOf s ≡ [] → spread 0 255 0 l ≡ map cellNumber (rowOf (columnsOf s))
+unfolding painted
+none-painted s l len e = spread-all l len ∙ numbers-painted [] ∙ ap (λ (es : List Column). map cellNumber (rowOf es)) (sym e)
+
+pub take-none : (s l : List ℕ) (p : ℕ) → length l ≡ 256 → p ≡ skipAt s 0 → length s ≤ p → spread 0 255 0 l ≡ map cellNumber (rowOf (columnsOf s))
+take-none s l p len e h = none-painted s l len (columns-none s p e h)
+
+pub take-bad : (s l : List ℕ) (p : ℕ) → length l ≡ 256 → p ≡ skipAt s 0 → p < length s → openAt s p ≡ Bad → spread 0 255 0 l ≡ map cellNumber (rowOf (columnsOf s))
+take-bad s l p len e h o = none-painted s l len (columns-bad s p e h o)
 
 pub take-val : (s l : List ℕ) (p k q : ℕ) → length l ≡ 256 → p ≡ skipAt s 0 → p < length s → openAt s p ≡ Val k q →
-    painted (columnsAt s q) (spread 0 255 0 l) ≡ rowOf (columnsOf s)
-unfolding rowOf
-take-val s l p k q len e h o = rw (columns-val s p k q e h o, spread-all l len)
+    painted (λ e. cellNumber (meaning e)) (columnsAt s q) (spread 0 255 0 l) ≡ map cellNumber (rowOf (columnsOf s))
+take-val s l p k q len e h o = rw (columns-val s p k q e h o, spread-all l len) (numbers-painted (columnsAt s q))
 
 -- a token's number, past an earlier place
 pub within-keeps : (r : Num) (at q n : ℕ) → q ≤ at → Within r at n → Keeps 255 r q n
@@ -159,9 +182,9 @@ row-filled m v l =
 put-first : (n : ℕ) (row l : List ℕ) → take 0 l ++ (row ++ drop (0 + n) l) ≡ row ++ drop n l
 put-first n row l = let y : 0 + n ≡ n = omega arith in rw y
 
-pub full-row : (l : List ℕ) → spread 0 255 1 l ≡ putRow 0 (replicate 256 1) l
+pub full-row : (v : ℕ) (l : List ℕ) → spread 0 255 v l ≡ putRow 0 (replicate 256 v) l
 unfolding putRow
-full-row l = row-filled 255 1 l ∙ sym (put-first 256 (replicate 256 1) l)
+full-row v l = row-filled 255 v l ∙ sym (put-first 256 (replicate 256 v) l)
 
 -- bounds of an entry: its last byte is a byte, its next row has at most two digits or is none
 abbrev pub Bounded : Column → Type 0
@@ -243,7 +266,7 @@ unfolding columnsOf
 columns-bounded s = pick-case (All Bounded) (leb (length s) (skipAt s 0)) _ _ (λ _. tt) (λ _. from-columns s (openAt s (skipAt s 0)))
 
 -- painting keeps the length
-spread-length : (from to v : ℕ) (l : List ℕ) → to < length l → length (spread from to v l) ≡ length l
+spread-length : {A : Type 0} (from to : ℕ) (v : A) (l : List A) → to < length l → length (spread from to v l) ≡ length l
 unfolding spread
 spread-length from to v l h = go (leb from to) refl
   where
@@ -256,31 +279,8 @@ spread-length from to v l h = go (leb from to) refl
         ∙ omega arith
     go false e = ap length (spread-end from to v l (leb-false from to e))
 
-pub painted-length : (cs : List Column) (n : ℕ) (row : List ℕ) → All (λ c. c .hi < n) cs → length row ≡ n → length (painted cs row) ≡ n
+pub painted-length : {A : Type 0} (value : Column → A) (cs : List Column) (n : ℕ) (row : List A) → All (λ c. c .hi < n) cs → length row ≡ n → length (painted value cs row) ≡ n
 unfolding painted
-painted-length [] n row h e = e
-painted-length (c ∷ cs) n row h e =
-    painted-length cs n (spread (c .lo) (c .hi) (meaning c) row) (h .1) (spread-length (c .lo) (c .hi) (meaning c) row (omega (arith, h .0)) ∙ e)
-
--- and what holds of every number
-pub painted-all : (P : ℕ → Type 0) (cs : List Column) (row : List ℕ) → All (λ c. P (meaning c)) cs → All P row → All P (painted cs row)
-unfolding painted spread
-painted-all P [] row h k = k
-painted-all P (c ∷ cs) row h k =
-    painted-all P cs (spread (c .lo) (c .hi) (meaning c) row) (h .1)
-    (all-append P (take (c .lo) row) _ (all-take P (c .lo) row k)
-    (all-append P (replicate (c .hi + 1 - c .lo) (meaning c)) _ (all-same P (c .hi + 1 - c .lo) (meaning c) (h .0)) (all-drop P (c .lo + (c .hi + 1 - c .lo)) row k)))
-
-known-lead : (n : ℕ) → known (16 + n) ≡ true
-known-lead n = pick-case (λ (b : Bool). b ≡ true) (leb (16 + n) 3) _ _ (λ _. refl) (λ _. le-leb 16 (16 + n) (omega arith))
-
-pub meaning-known : (c : Column) → known (meaning c) ≡ true
-unfolding meaning
-meaning-known c =
-    pick-case P (eqb (c .kind) 0) _ _ (λ _. pick-case P (eqb (c .next) 256) _ _ (λ _. refl) (λ _. known-lead (c .next)))
-    (λ _. pick-case P (eqb (c .kind) 1) _ _ (λ _. refl)
-    (λ _. pick-case P (eqb (c .kind) 2) _ _ (λ _. refl)
-    (λ _. pick-case P (eqb (c .kind) 3) _ _ (λ _. refl) (λ _. refl))))
-  where
-    P : ℕ → Type 0
-    P x = known x ≡ true
+painted-length value [] n row h e = e
+painted-length value (c ∷ cs) n row h e =
+    painted-length value cs n (spread (c .lo) (c .hi) (value c) row) (h .1) (spread-length (c .lo) (c .hi) (value c) row (omega (arith, h .0)) ∙ e)

@@ -2,28 +2,31 @@
 use Prim.Native.Nat.{ℕ, zero, suc, _+_, _-_, _<_, _≤_}
 use mathlib.Core.Path.{_≡_, refl, sym, ap, subst, _∙_}
 use mathlib.Core.Bool.{true, false}
-use mathlib.Core.List.{List, [], _∷_, _++_}
+use mathlib.Core.List.{List, [], _++_}
 use native.Mathlib.Omega.{arith}
 use lib.ListN.{length, take, drop, replicate, length-replicate, take-append-drop}
 use lib.Seq.{take-at, drop-at}
 use lib.Dec.{ltb}
-use borrow.Author.Tests.{ne-eqb, ltb-false, lt-ltb, le-ltb}
+use borrow.Author.Tests.{ltb-false, lt-ltb, le-ltb}
 use Rattle.lists.specs.Order.{sort, upFrom}
 use Rattle.lists.proofs.Laws.{clash}
 use Rattle.lists.proofs.Cases.{pick-yes, pick-no}
 use Rattle.lists.proofs.Chains.{either-first, either-rest}
-use Rattle.table.specs.Limits.{Limits, limits, needed}
+use Rattle.table.specs.Limits.{Limits, needed}
+use Rattle.table.specs.Cells.{Cell}
 use Rattle.table.specs.States.{Rows, endKind, isCode}
-use Rattle.table.specs.Codes.{unpacked}
+use Rattle.table.specs.Codes.{packed, unpacked}
 use Rattle.table.specs.Meaning.{Line, Table, flat}
-use Rattle.table.specs.Rules.{allOf, t9}
-use Rattle.table.specs.Memory.{filled, orderOf, sub1Of, sub1In, recordOf}
+use Rattle.table.specs.Rules.{t9}
+use Rattle.table.specs.Slices.{Slices, slices}
+use Rattle.table.specs.Memory.{filled, orderOf, recordOf}
+use Rattle.table.specs.Keys.{Keys}
 use Rattle.table.specs.Text.{linesOf, firstLine, restLines}
 use Rattle.table.specs.Header.{lineOf}
 use Rattle.table.specs.Mapping.{Form, noForm, reserved, blank, ending, mapping, mappedOf, lastOf}
-use Rattle.table.specs.Numbers.{lowest, keyConditions, charmapConditions, mappingConditions, rowsAt}
-use Rattle.table.specs.Load.{Reading, Step, went, stop, reading, keep, keepRow, headAt, lineAs, headerStep, mappingStep, lastStep, phaseStep, stepOf, tableOf, Outcome, accepted, refused, outcomeAt, loadGo, loadOf, emptyHead, Small, Given, untouched, read, givenBy, leftBy, loadedAs}
-use Rattle.table.specs.Progress.{Lent, Holding, Taken, progress}
+use Rattle.table.specs.Numbers.{lowest}
+use Rattle.table.specs.Load.{Reading, Step, went, stop, reading, headerAsks, mappingAsks, lastAsks, phaseAsks, lineAsks, stepOf, tableOf, Outcome, accepted, refused, outcomeAt, loadGo, loadOf, Small, untouched, read, given, leftBy, loadedAs, statesOf, codesOf, infosOf, orderedOf, leftIn}
+use Rattle.table.specs.Progress.{Lent, keysIn, emptyHead, Holding, Taken, progress}
 use Rattle.table.specs.declared.header.Head.{Head}
 use Rattle.table.specs.declared.header.Line.{Line as HeaderLine}
 use Rattle.table.specs.declared.header.Line.the-variants as header
@@ -39,7 +42,9 @@ use Rattle.table.specs.declared.load.Went.the-variants as outcome
 use Rattle.table.specs.declared.valid.Record.{Record}
 use Rattle.table.proofs.LinesLaws.{lines-cut, lines-end}
 use Rattle.table.proofs.Packing.{length-unpacked, pack-unpack}
-use Rattle.table.proofs.Judged.{stop-went, went-same, judged-went}
+use Rattle.table.proofs.ValidLaws.{sub1-back}
+use Rattle.table.proofs.KeyLaws.{min-is, max-is, subchar-is}
+use Rattle.table.proofs.Judged.{judged-went}
 use Rattle.table.proofs.Accepted.{accepted-keeps-rules}
 
 -- one line read
@@ -57,53 +62,57 @@ stop-on : (x : Refusal) (q : Progress) → outcome.Stop x ≡ outcome.On q → �
 stop-on x q e = let z : _≡_ {A = ℕ} 0 1 = cc in omega arith
 
 -- a line at which the function stops
-pub taken-stop : (lim : Limits) (t : Step) (r : Went) (x : Refusal) (s c i o : List ℕ) → Taken lim t r s c i o → r ≡ outcome.Stop x → t ≡ stop x
-taken-stop lim (stop y) r x s c i o h e = let d : outcome.Stop y ≡ outcome.Stop x = sym h ∙ e in cc
-taken-stop lim (went g) r x s c i o h e = absurd (stop-on x _ (sym e ∙ h .0))
+pub taken-stop : (lim : Limits) (t : Step) (r : Went) (x : Refusal) (m : Slices) → Taken lim t r m → r ≡ outcome.Stop x → t ≡ stop x
+taken-stop lim (stop y) r x m h e = let d : outcome.Stop y ≡ outcome.Stop x = sym h ∙ e in cc
+taken-stop lim (went g) r x m h e = absurd (stop-on x _ (sym e ∙ h .1))
 
 -- a line after which it goes on: what was read up to there is what the memory holds
-pub record Goes (lim : Limits) (t : Step) (q : Progress) (s c i o : List ℕ) : Type 0 where
-  pub rows : List (List ℕ)
+pub record Goes (lim : Limits) (t : Step) (q : Progress) (m : Slices) : Type 0 where
+  pub rows : List (List Cell)
   pub lines : List Line
-  pub step-is : t ≡ went (reading (q .phase) (q .head) rows lines)
-  pub holding : Holding lim (q .head) (q .mappings) rows lines s c i o
+  pub step-is : t ≡ went (reading (q .phase) (keysIn (q .head)) rows lines)
+  pub holding : Holding lim (q .head) (q .mappings) rows lines m
 
-pub taken-on : (lim : Limits) (t : Step) (r : Went) (q : Progress) (s c i o : List ℕ) → Taken lim t r s c i o → r ≡ outcome.On q → Goes lim t q s c i o
-taken-on lim (stop y) r q s c i o h e = absurd (stop-on y q (sym h ∙ e))
-taken-on lim (went g) r q s c i o h e =
-    let d : outcome.On (progress (g .phase) (g .head) (length (g .lines))) ≡ outcome.On q = sym (h .0) ∙ e in
-    let f : progress (g .phase) (g .head) (length (g .lines)) ≡ q = cc in
-    subst (λ (p : Progress). Goes lim (went g) p s c i o) f (record { rows = g .rows; lines = g .lines; step-is = refl; holding = h .1 })
+pub taken-on : (lim : Limits) (t : Step) (r : Went) (q : Progress) (m : Slices) → Taken lim t r m → r ≡ outcome.On q → Goes lim t q m
+taken-on lim (stop y) r q m h e = absurd (stop-on y q (sym h ∙ e))
+taken-on lim (went g) r q m h e =
+    let d : outcome.On (progress (g .phase) (h .0) (length (g .lines))) ≡ outcome.On q = sym (h .1) ∙ e in
+    let f : progress (g .phase) (h .0) (length (g .lines)) ≡ q = cc in
+    let k : went g ≡ went (reading (g .phase) (keysIn (h .0)) (g .rows) (g .lines)) = ap (λ (x : Keys). went (reading (g .phase) x (g .rows) (g .lines))) (sym (h .2)) in
+    subst (λ (p : Progress). Goes lim (went g) p m) f (record { rows = g .rows; lines = g .lines; step-is = k; holding = h .3 })
 
 -- before CHARMAP no mapping is read
-header-lines : (lim : Limits) (h : Head) (rows : List (List ℕ)) (s : List ℕ) (l : HeaderLine) (g : Reading) → headerStep lowest lim h rows s l ≡ went g → [] ≡ g .lines
-unfolding headerStep
-header-lines lim h rows s header.NoForm g e = absurd (stop-went _ g e)
-header-lines lim h rows s header.Blank g e = ap (λ (r : Reading). r .lines) (went-same _ g e)
-header-lines lim h rows s header.Charmap g e = ap (λ (r : Reading). r .lines) (judged-went (lowest (charmapConditions h rows)) (reading Mappings (headAt h (rowsAt h rows)) (rowsAt h rows) []) g e .1)
-header-lines lim h rows s (header.Known k v q f) g e = ap (λ (r : Reading). r .lines) (judged-went (lowest (keyConditions lim h k v)) (reading Header (keep h v) (keepRow v (take (f - q) (drop q s)) rows) []) g e .1)
+header-lines : (lim : Limits) (h : Keys) (rows : List (List Cell)) (s : List ℕ) (l : HeaderLine) → [] ≡ headerAsks lim h rows s l .behind .lines
+header-lines lim h rows s header.NoForm = refl
+header-lines lim h rows s header.Blank = refl
+header-lines lim h rows s header.Charmap = refl
+header-lines lim h rows s (header.Known k v q e) = refl
 
-mapping-phase : (lim : Limits) (h : Head) (rows : List (List ℕ)) (ls : List Line) (f : Form) (g : Reading) → mappingStep lowest lim h rows ls f ≡ went g → g .phase ≡ Header → ⊥
-unfolding mappingStep
-mapping-phase lim h rows ls noForm g e p = stop-went _ g e
-mapping-phase lim h rows ls reserved g e p = stop-went _ g e
-mapping-phase lim h rows ls blank g e p = let d : Mappings ≡ Header = ap (λ (r : Reading). r .phase) (went-same _ g e) ∙ p in let z : _≡_ {A = ℕ} 0 1 = cc in omega arith
-mapping-phase lim h rows ls ending g e p = let d : Ended ≡ Header = ap (λ (r : Reading). r .phase) (went-same _ g e) ∙ p in let z : _≡_ {A = ℕ} 0 1 = cc in omega arith
-mapping-phase lim h rows ls (mapping u c i) g e p = let d : Mappings ≡ Header = ap (λ (r : Reading). r .phase) (judged-went (lowest (mappingConditions lim h rows ls (lineAs u c i))) (reading Mappings h rows (lineAs u c i ∷ ls)) g e .1) ∙ p in let z : _≡_ {A = ℕ} 0 1 = cc in omega arith
+mapping-phase : (lim : Limits) (h : Keys) (rows : List (List Cell)) (ls : List Line) (f : Form) → mappingAsks lim h rows ls f .behind .phase ≡ Header → ⊥
+mapping-phase lim h rows ls noForm e = let z : _≡_ {A = ℕ} 0 1 = cc in omega arith
+mapping-phase lim h rows ls reserved e = let z : _≡_ {A = ℕ} 0 1 = cc in omega arith
+mapping-phase lim h rows ls blank e = let z : _≡_ {A = ℕ} 0 1 = cc in omega arith
+mapping-phase lim h rows ls ending e = let z : _≡_ {A = ℕ} 0 1 = cc in omega arith
+mapping-phase lim h rows ls (mapping u c i) e = let z : _≡_ {A = ℕ} 0 1 = cc in omega arith
 
-last-phase : (h : Head) (rows : List (List ℕ)) (ls : List Line) (f : Form) (g : Reading) → lastStep h rows ls f ≡ went g → g .phase ≡ Header → ⊥
-unfolding lastStep
-last-phase h rows ls noForm g e p = stop-went _ g e
-last-phase h rows ls reserved g e p = stop-went _ g e
-last-phase h rows ls blank g e p = let d : Ended ≡ Header = ap (λ (r : Reading). r .phase) (went-same _ g e) ∙ p in let z : _≡_ {A = ℕ} 0 1 = cc in omega arith
-last-phase h rows ls ending g e p = stop-went _ g e
-last-phase h rows ls (mapping u c i) g e p = stop-went _ g e
+last-phase : (h : Keys) (rows : List (List Cell)) (ls : List Line) (f : Form) → lastAsks h rows ls f .behind .phase ≡ Header → ⊥
+last-phase h rows ls noForm e = let z : _≡_ {A = ℕ} 0 1 = cc in omega arith
+last-phase h rows ls reserved e = let z : _≡_ {A = ℕ} 0 1 = cc in omega arith
+last-phase h rows ls blank e = let z : _≡_ {A = ℕ} 0 1 = cc in omega arith
+last-phase h rows ls ending e = let z : _≡_ {A = ℕ} 0 1 = cc in omega arith
+last-phase h rows ls (mapping u c i) e = let z : _≡_ {A = ℕ} 0 1 = cc in omega arith
 
-pub none-yet : (lim : Limits) (p : Phase) (h : Head) (rows : List (List ℕ)) (ls : List Line) (s : List ℕ) (g : Reading) → phaseStep lowest lim p h rows ls s ≡ went g → g .phase ≡ Header → [] ≡ g .lines
-unfolding phaseStep
-none-yet lim Header h rows ls s g e p = header-lines lim h rows s (lineOf s) g e
-none-yet lim Mappings h rows ls s g e p = absurd (mapping-phase lim h rows ls (mappedOf s) g e p)
-none-yet lim Ended h rows ls s g e p = absurd (last-phase h rows ls (lastOf s) g e p)
+none-behind : (lim : Limits) (p : Phase) (h : Keys) (rows : List (List Cell)) (ls : List Line) (s : List ℕ)
+    → phaseAsks lim p h rows ls s .behind .phase ≡ Header → [] ≡ phaseAsks lim p h rows ls s .behind .lines
+none-behind lim Header h rows ls s e = header-lines lim h rows s (lineOf s)
+none-behind lim Mappings h rows ls s e = absurd (mapping-phase lim h rows ls (mappedOf s) e)
+none-behind lim Ended h rows ls s e = absurd (last-phase h rows ls (lastOf s) e)
+
+pub none-yet : (lim : Limits) (r : Reading) (s : List ℕ) (g : Reading) → stepOf lowest lim r s ≡ went g → g .phase ≡ Header → [] ≡ g .lines
+none-yet lim r s g e =
+    let a = lineAsks lim r s in
+    subst (λ (q : Reading). q .phase ≡ Header → [] ≡ q .lines) (judged-went (lowest (a .conditions)) (a .behind) g e .1)
+    (none-behind lim (r .phase) (r .head) (r .rows) (r .lines) s)
 
 -- zeroed memory holds nothing
 zeroed : (n : ℕ) (l : List ℕ) → take n (replicate n 0 ++ l) ≡ filled n []
@@ -111,15 +120,14 @@ unfolding filled
 zeroed n l = let e : n - 0 ≡ n = omega arith in rw e (take-at (replicate n 0) l n (length-replicate n 0))
 
 pub start-holds : (lim : Limits) (s c i o s′ c′ i′ o′ : List ℕ) → s′ ≡ replicate (needed lim) 0 ++ s → c′ ≡ replicate (lim .mappings) 0 ++ c
-    → i′ ≡ replicate (lim .mappings) 0 ++ i → o′ ≡ replicate (lim .mappings) 0 ++ o → Holding lim emptyHead 0 [] [] s′ c′ i′ o′
-unfolding flat allOf t9 sort upFrom orderOf
+    → i′ ≡ replicate (lim .mappings) 0 ++ i → o′ ≡ replicate (lim .mappings) 0 ++ o → Holding lim emptyHead 0 [] [] (slices s′ c′ i′ o′)
+unfolding flat t9 sort upFrom orderOf
 start-holds lim s c i o s′ c′ i′ o′ es ec ei eo =
     record {
-      head-proper = record { min-small = omega arith; max-small = omega arith; sub-short = omega arith; sub-padded = λ h. absurd (omega arith); sub1-small = omega arith };
+      head-proper = record { min-small = omega arith; max-small = omega arith; class-small = omega arith; sub-short = omega arith; sub-none = λ e. refl; sub-padded = λ h. absurd (omega arith); sub1-small = omega arith };
       rows-count = refl;
       rows-few = omega arith;
       rows-full = tt;
-      rows-known = refl;
       states-are = ap (take (needed lim)) es ∙ zeroed (needed lim) s;
       lines-count = refl;
       lines-good = tt;
@@ -141,67 +149,67 @@ pub accepted-left : (n : ℕ) (f : Table → List ℕ) (out : Outcome) (t : Tabl
 accepted-left n f out t old new e a r = sym (take-append-drop n new) ∙ (λ i. a i ++ r i) ∙ sym (ap (λ (u : Outcome). leftBy n f (read u) old) e)
 
 -- the record of an accepted text
-sub1-back : (n : ℕ) → n ≡ sub1Of (sub1In n)
-sub1-back zero = refl
-sub1-back (suc n) = let e : suc n ≡ 0 → ⊥ = λ z. omega arith in rw (ne-eqb (suc n) 0 e) (omega arith)
-
 -- an empty string is no code
-sub-some : (step : Rows) (n v : ℕ) → isCode step 0 (unpacked n v) ≡ true → 1 ≤ n
+sub-some : (step : Rows) (c : List ℕ) (n v : ℕ) → c ≡ unpacked n v → isCode step 0 c ≡ true → 1 ≤ n
 unfolding unpacked endKind
-sub-some step zero v h = absurd (clash h refl)
-sub-some step (suc n) v h = omega arith
+sub-some step c zero v e h = absurd (clash (sym (ap (isCode step 0) e) ∙ h) refl)
+sub-some step c (suc n) v e h = omega arith
 
-pub record-left : (text : List ℕ) (p : Phase) (h : Head) (n : ℕ) (rows : List (List ℕ)) (ls : List Line) (s c i o : List ℕ) → Holding limits h n rows ls s c i o → loadOf limits text ≡ accepted (tableOf (reading p h rows ls))
-    → _≡_ {A = Record} (record { rows = h .rows; mappings = n; min = h .min; max = h .max; subchar = h .sub; subchar1 = h .sub1 }) (recordOf (tableOf (reading p h rows ls)))
+pub record-left : (lim : Limits) (text : List ℕ) (p : Phase) (h : Head) (n : ℕ) (rows : List (List Cell)) (ls : List Line) (m : Slices)
+    → 1 ≤ lim .rows → Holding lim h n rows ls m → loadOf lim text ≡ accepted (tableOf (reading p (keysIn h) rows ls))
+    → _≡_ {A = Record} (record { rows = h .rows; mappings = n; min = h .min; max = h .max; subchar = h .sub; subchar1 = h .sub1 }) (recordOf (tableOf (reading p (keysIn h) rows ls)))
 unfolding recordOf tableOf
-record-left text p h n rows ls s c i o held e =
-    let some = sub-some _ (h .sub .len) (h .sub .bits) (accepted-keeps-rules limits text _ (omega arith) e .rule4-sub) in
-    let bits = pack-unpack (h .sub .len) (h .sub .bits) (held .head-proper .sub-padded some) in
-    let len = length-unpacked (h .sub .len) (h .sub .bits) in
+record-left lim text p h n rows ls m one held e =
+    let sub = subchar-is h in
+    let some = sub-some _ _ (h .sub .len) (h .sub .bits) sub (accepted-keeps-rules lim text _ one e .rule4-sub) in
+    let bits = ap packed sub ∙ pack-unpack (h .sub .len) (h .sub .bits) (held .head-proper .sub-padded some) in
+    let len = ap length sub ∙ length-unpacked (h .sub .len) (h .sub .bits) in
     (λ j. record {
       rows = held .rows-count j;
       mappings = sym (held .lines-count) j;
-      min = h .min;
-      max = h .max;
+      min = sym (min-is h) j;
+      max = sym (max-is h) j;
       subchar = record { bits = sym bits j; len = sym len j };
-      subchar1 = sub1-back (h .sub1) j;
+      subchar1 = sym (sub1-back (h .sub1)) j;
     })
 
 pub accepted-as : (out : Outcome) (t : Table) (r : Record) → out ≡ accepted t → r ≡ recordOf t → _≡_ {A = Loaded} (record { answer = Accepted; line = 0; table = r }) (loadedAs out)
 accepted-as out t r e n = (λ j. record { answer = Accepted; line = 0; table = n j }) ∙ sym (ap loadedAs e)
 
 -- whether the memory and the text fit
-pub long-enough : (lim : Limits) (states codes infos order : List ℕ) → Small lim (length states) (length codes) (length infos) (length order) ≡ false → Lent lim states codes infos order
-long-enough lim states codes infos order e =
-    let c = either-rest (ltb (length states) (needed lim)) _ e in
-    let i = either-rest (ltb (length codes) (lim .mappings)) _ c in
-    let o = either-rest (ltb (length infos) (lim .mappings)) _ i in
+pub long-enough : (lim : Limits) (m : Slices) → Small lim (length (m .states)) (length (m .codes)) (length (m .infos)) (length (m .order)) ≡ false → Lent lim m
+long-enough lim m e =
+    let c = either-rest (ltb (length (m .states)) (needed lim)) _ e in
+    let i = either-rest (ltb (length (m .codes)) (lim .mappings)) _ c in
+    let o = either-rest (ltb (length (m .infos)) (lim .mappings)) _ i in
     record {
-      states-long = ltb-false (length states) (needed lim) (either-first _ _ e);
-      codes-long = ltb-false (length codes) (lim .mappings) (either-first _ _ c);
-      infos-long = ltb-false (length infos) (lim .mappings) (either-first _ _ i);
-      order-long = ltb-false (length order) (lim .mappings) o;
+      states-long = ltb-false (length (m .states)) (needed lim) (either-first _ _ e);
+      codes-long = ltb-false (length (m .codes)) (lim .mappings) (either-first _ _ c);
+      infos-long = ltb-false (length (m .infos)) (lim .mappings) (either-first _ _ i);
+      order-long = ltb-false (length (m .order)) (lim .mappings) o;
     }
 
-pub given-small : (lim : Limits) (text : List ℕ) (s c i o : ℕ) → Small lim s c i o ≡ true → givenBy lim text s c i o ≡ untouched refusal.MemoryTooSmall
-unfolding givenBy
-given-small lim text s c i o e = pick-yes _ _ _ e
+pub given-small : (lim : Limits) (text : List ℕ) (m : Slices)
+    → Small lim (length (m .states)) (length (m .codes)) (length (m .infos)) (length (m .order)) ≡ true → given lim text m ≡ untouched refusal.MemoryTooSmall
+unfolding given
+given-small lim text m e = pick-yes _ _ _ e
 
-pub given-long : (lim : Limits) (text : List ℕ) (s c i o : ℕ) → Small lim s c i o ≡ false → lim .text < length text → givenBy lim text s c i o ≡ untouched refusal.TextTooLong
-unfolding givenBy
-given-long lim text s c i o e h = pick-no _ _ _ e ∙ pick-yes _ _ _ (lt-ltb (lim .text) (length text) h)
+pub given-long : (lim : Limits) (text : List ℕ) (m : Slices)
+    → Small lim (length (m .states)) (length (m .codes)) (length (m .infos)) (length (m .order)) ≡ false → lim .text < length text
+    → given lim text m ≡ untouched refusal.TextTooLong
+unfolding given
+given-long lim text m e h = pick-no _ _ _ e ∙ pick-yes _ _ _ (lt-ltb (lim .text) (length text) h)
 
-pub given-read : (lim : Limits) (text : List ℕ) (s c i o : ℕ) → Small lim s c i o ≡ false → length text ≤ lim .text → givenBy lim text s c i o ≡ read (loadOf lim text)
-unfolding givenBy
-given-read lim text s c i o e h = pick-no _ _ _ e ∙ pick-no _ _ _ (le-ltb (lim .text) (length text) h)
-
--- a slice that is not looked at
-pub untouched-left : (n : ℕ) (f : Table → List ℕ) (g : Given) (x : Refusal) (old : List ℕ) → g ≡ untouched x → old ≡ leftBy n f g old
-untouched-left n f g x old e = sym (ap (λ (u : Given). leftBy n f u old) e)
+pub given-read : (lim : Limits) (text : List ℕ) (m : Slices)
+    → Small lim (length (m .states)) (length (m .codes)) (length (m .infos)) (length (m .order)) ≡ false → length text ≤ lim .text
+    → given lim text m ≡ read (loadOf lim text)
+unfolding given
+given-read lim text m e h = pick-no _ _ _ e ∙ pick-no _ _ _ (le-ltb (lim .text) (length text) h)
 
 -- a slice that was zeroed before the first line
-pub zeroed-left : (n : ℕ) (f : Table → List ℕ) (g : Given) (out : Outcome) (old mid new : List ℕ) → g ≡ read out → mid ≡ replicate n 0 ++ drop n old → new ≡ leftBy n f (read out) mid → new ≡ leftBy n f g old
-zeroed-left n f g out old mid new e z h = h ∙ same out ∙ sym (ap (λ (u : Given). leftBy n f u old) e)
+zeroed-left : (n : ℕ) (f : Table → List ℕ) (out : Outcome) (old mid new : List ℕ) → mid ≡ replicate n 0 ++ drop n old → new ≡ leftBy n f (read out) mid
+    → new ≡ leftBy n f (read out) old
+zeroed-left n f out old mid new z h = h ∙ same out
   where
     rest : drop n mid ≡ drop n old
     rest = ap (drop n) z ∙ drop-at (replicate n 0) (drop n old) n (length-replicate n 0)
@@ -209,3 +217,11 @@ zeroed-left n f g out old mid new e z h = h ∙ same out ∙ sym (ap (λ (u : Gi
     same : (out : Outcome) → leftBy n f (read out) mid ≡ leftBy n f (read out) old
     same (accepted t) = ap (λ (d : List ℕ). filled n (f t) ++ d) rest
     same (refused x k) = ap (λ (d : List ℕ). replicate n 0 ++ d) rest
+
+pub slices-left : (lim : Limits) (out : Outcome) (s c i o s1 c1 i1 o1 s2 c2 i2 o2 : List ℕ)
+    → s1 ≡ replicate (needed lim) 0 ++ drop (needed lim) s → c1 ≡ replicate (lim .mappings) 0 ++ drop (lim .mappings) c → i1 ≡ replicate (lim .mappings) 0 ++ drop (lim .mappings) i → o1 ≡ replicate (lim .mappings) 0 ++ drop (lim .mappings) o
+    → s2 ≡ leftBy (needed lim) statesOf (read out) s1 → c2 ≡ leftBy (lim .mappings) codesOf (read out) c1 → i2 ≡ leftBy (lim .mappings) infosOf (read out) i1
+    → o2 ≡ leftBy (lim .mappings) orderedOf (read out) o1 → slices s2 c2 i2 o2 ≡ leftIn lim (read out) (slices s c i o)
+slices-left lim out s c i o s1 c1 i1 o1 s2 c2 i2 o2 zs zc zi zo hs hc hi ho = λ j. slices
+    (zeroed-left (needed lim) statesOf out s s1 s2 zs hs j) (zeroed-left (lim .mappings) codesOf out c c1 c2 zc hc j)
+    (zeroed-left (lim .mappings) infosOf out i i1 i2 zi hi j) (zeroed-left (lim .mappings) orderedOf out o o1 o2 zo ho j)

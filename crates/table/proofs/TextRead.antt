@@ -14,6 +14,7 @@ use Rattle.lists.specs.Pick.{pick}
 use Rattle.lists.specs.Order.{All}
 use Rattle.lists.proofs.Laws.{both-right}
 use Rattle.table.specs.Limits.{Limits}
+use Rattle.table.specs.Cells.{Cell}
 use Rattle.table.specs.Meaning.{Line, Table}
 use Rattle.table.specs.Rules.{Keeps}
 use Rattle.table.specs.Text.{linesOf}
@@ -21,11 +22,11 @@ use Rattle.table.specs.Row.{rowOf}
 use Rattle.table.specs.Header.{keyOf, valueOf, lineOf}
 use Rattle.table.specs.Mapping.{Form, noForm, reserved, blank, ending, mapping, mappedOf, lastOf}
 use Rattle.table.specs.Numbers.{inForm, n13, rowsAt, keyConditions, charmapConditions, mappingConditions}
-use Rattle.table.specs.Load.{Reading, went, stop, judged, reading, keep, keepRow, headAt, lineAs, headerStep, mappingStep, lastStep, phaseStep, stepOf, tableOf, accepted, outcomeAt, loadGo, emptyHead, start, loadOf, readOf}
+use Rattle.table.specs.Load.{Reading, went, stop, judged, reading, keep, keepRow, lineAs, headerAsks, mappingAsks, lastAsks, judgedBy, stepOf, tableOf, accepted, outcomeAt, loadGo, start, loadOf, readOf}
 use Rattle.table.specs.Grammar.{Lines, BlankLine, CharmapLine, EndLine, MappingLine, Pair, KeyLine, valuesOf, RowsAre, HeaderSays, Listed, TableText}
 use Rattle.table.specs.declared.header.Key.{Key}
 use Rattle.table.specs.declared.header.Value.{Value}
-use Rattle.table.specs.declared.header.Head.{Head}
+use Rattle.table.specs.Keys.{Keys, noKeys}
 use Rattle.table.specs.declared.header.Line.{Line as HeaderLine}
 use Rattle.table.specs.declared.header.Line.the-variants as header
 use Rattle.table.specs.declared.load.Refusal.{Refusal}
@@ -51,14 +52,14 @@ stopped : {A : Type 0} (lim : Limits) (k : ℕ) (ls : List (List ℕ)) (x : Refu
 stopped lim k ls x t e = absurd (refused-accepted x k t (sym (stop-outcome inForm lim k ls x) ∙ e))
 
 -- behind END CHARMAP
-last-go : (lim : Limits) (t : Table) (ls : List (List ℕ)) (k : ℕ) (h : Head) (rows : List (List ℕ)) (ms : List Line)
+last-go : (lim : Limits) (t : Table) (ls : List (List ℕ)) (k : ℕ) (h : Keys) (rows : List (List Cell)) (ms : List Line)
     → loadGo inForm lim k ls (went (reading Ended h rows ms)) ≡ accepted t → All BlankLine ls × (t ≡ tableWith h rows ms)
-unfolding loadGo phaseStep lastStep outcomeAt tableOf
+unfolding loadGo inForm outcomeAt tableOf
 last-go lim t [] k h rows ms e = (tt, sym (accepted-same _ t e))
 last-go lim t (l ∷ ls) k h rows ms e = by-form (lastOf l) (last-written l) (last-go lim t ls (k + 1) h rows ms) e
   where
     by-form : (f : Form) → LastMeans l f → (loadGo inForm lim (k + 1) ls (went (reading Ended h rows ms)) ≡ accepted t → All BlankLine ls × (t ≡ tableWith h rows ms))
-        → loadGo inForm lim (k + 1) ls (lastStep h rows ms f) ≡ accepted t → All BlankLine (l ∷ ls) × (t ≡ tableWith h rows ms)
+        → loadGo inForm lim (k + 1) ls (judgedBy inForm (lastAsks h rows ms f)) ≡ accepted t → All BlankLine (l ∷ ls) × (t ≡ tableWith h rows ms)
     by-form noForm m ih x = stopped lim (k + 1) ls _ t x
     by-form reserved m ih x = stopped lim (k + 1) ls _ t x
     by-form blank m ih x = let r = ih x in ((m, r .0), r .1)
@@ -66,13 +67,12 @@ last-go lim t (l ∷ ls) k h rows ms e = by-form (lastOf l) (last-written l) (la
     by-form (mapping u c d) m ih x = absurd m
 
 -- the conditions of a mapping line are all rules
-mapping-fine : (lim : Limits) (h : Head) (rows : List (List ℕ)) (ms : List Line) (l : Line) → inForm (mappingConditions lim h rows ms l) ≡ Fine
+mapping-fine : (lim : Limits) (h : Keys) (rows : List (List Cell)) (ms : List Line) (l : Line) → inForm (mappingConditions lim h rows ms l) ≡ Fine
 unfolding inForm mappingConditions
 mapping-fine lim h rows ms l = refl
 
-mapping-goes : (lim : Limits) (h : Head) (rows : List (List ℕ)) (ms : List Line) (u : ℕ) (c : List ℕ) (d : ℕ)
-    → mappingStep inForm lim h rows ms (mapping u c d) ≡ went (reading Mappings h rows (lineAs u c d ∷ ms))
-unfolding mappingStep
+mapping-goes : (lim : Limits) (h : Keys) (rows : List (List Cell)) (ms : List Line) (u : ℕ) (c : List ℕ) (d : ℕ)
+    → judgedBy inForm (mappingAsks lim h rows ms (mapping u c d)) ≡ went (reading Mappings h rows (lineAs u c d ∷ ms))
 mapping-goes lim h rows ms u c d = rw (mapping-fine lim h rows ms (lineAs u c d))
 
 -- END CHARMAP and blank lines
@@ -80,14 +80,14 @@ abbrev Ending : List (List ℕ) → Type 0
 Ending ls = (end : List ℕ) × (rest : List (List ℕ)) × (ls ≡ end ∷ rest) × EndLine end × All BlankLine rest
 
 -- between CHARMAP and END CHARMAP, behind the mappings ms: mapping lines, and the end
-abbrev BodyRest : List (List ℕ) → Head → List (List ℕ) → List Line → Table → Type 0
+abbrev BodyRest : List (List ℕ) → Keys → List (List Cell) → List Line → Table → Type 0
 BodyRest ls h rows ms t =
     (body : List (List ℕ)) × (tail : List (List ℕ)) × (news : List Line)
     × (ls ≡ body ++ tail) × Listed MappingLine news body × Ending tail × (t ≡ tableWith h rows (reverseAux news ms))
 
-body-go : (lim : Limits) (t : Table) (ls : List (List ℕ)) (k : ℕ) (h : Head) (rows : List (List ℕ)) (ms : List Line)
+body-go : (lim : Limits) (t : Table) (ls : List (List ℕ)) (k : ℕ) (h : Keys) (rows : List (List Cell)) (ms : List Line)
     → loadGo inForm lim k ls (went (reading Mappings h rows ms)) ≡ accepted t → BodyRest ls h rows ms t
-unfolding loadGo phaseStep mappingStep outcomeAt
+unfolding loadGo inForm outcomeAt
 body-go lim t [] k h rows ms e = absurd (refused-accepted _ _ t e)
 body-go lim t (l ∷ ls) k h rows ms e = by-form (mappedOf l) (form-written l) (λ m. body-go lim t ls (k + 1) h rows m) e
   where
@@ -95,7 +95,7 @@ body-go lim t (l ∷ ls) k h rows ms e = by-form (mappedOf l) (form-written l) (
     longer x y are = ap (λ (z : List (List ℕ)). l ∷ z) are
 
     by-form : (f : Form) → FormMeans l f → ((m : List Line) → loadGo inForm lim (k + 1) ls (went (reading Mappings h rows m)) ≡ accepted t → BodyRest ls h rows m t)
-        → loadGo inForm lim (k + 1) ls (mappingStep inForm lim h rows ms f) ≡ accepted t → BodyRest (l ∷ ls) h rows ms t
+        → loadGo inForm lim (k + 1) ls (judgedBy inForm (mappingAsks lim h rows ms f)) ≡ accepted t → BodyRest (l ∷ ls) h rows ms t
     by-form noForm m ih x = stopped lim (k + 1) ls _ t x
     by-form reserved m ih x = stopped lim (k + 1) ls _ t x
     by-form blank m ih x = let (body, tail, news, are, each, end, table) = ih ms x in (l ∷ body, tail, news, longer body tail are, inl (m, each), end, table)
@@ -118,16 +118,16 @@ HeaderRest ls ps t =
     × (ls ≡ header ++ tail) × Listed KeyLine pairs header × Charmapped tail t × HeaderSays (reverseAux ps pairs) t
 
 -- the line CHARMAP
-charmap-fine : (h : Head) (rows : List (List ℕ)) → inForm (charmapConditions h rows) ≡ Fine → n13 h ≡ false
+charmap-fine : (h : Keys) (rows : List (List Cell)) → inForm (charmapConditions h rows) ≡ Fine → n13 h (length rows) ≡ false
 unfolding inForm charmapConditions
-charmap-fine h rows e = by-absent (n13 h) refl e
+charmap-fine h rows e = by-absent (n13 h (length rows)) refl e
   where
-    by-absent : (x : Bool) → n13 h ≡ x → pick x (Refuse refusal.KeyAbsent) Fine ≡ Fine → n13 h ≡ false
+    by-absent : (x : Bool) → n13 h (length rows) ≡ x → pick x (Refuse refusal.KeyAbsent) Fine ≡ Fine → n13 h (length rows) ≡ false
     by-absent false n f = n
     by-absent true n f = absurd (let z : _≡_ {A = ℕ} 0 1 = cc in omega arith)
 
-charmap-before : (l : List ℕ) (ls : List (List ℕ)) (ps : List Pair) (t : Table) (h : Head) (rows : List (List ℕ)) → Held h rows ps → n13 h ≡ false → CharmapLine l
-    → BodyRest ls (headAt h (rowsAt h rows)) (rowsAt h rows) [] t → HeaderRest (l ∷ ls) ps t
+charmap-before : (l : List ℕ) (ls : List (List ℕ)) (ps : List Pair) (t : Table) (h : Keys) (rows : List (List Cell)) → Held h rows ps → n13 h (length rows) ≡ false → CharmapLine l
+    → BodyRest ls h (rowsAt h rows) [] t → HeaderRest (l ∷ ls) ps t
 charmap-before l ls ps t h rows held n c (body, tail, news, are, each, end, table) =
     let back : reverse (t .lines) ≡ news = ap (λ (x : Table). reverse (x .lines)) table ∙ reverse-reverse news in
     let y = header-said h rows (reverse ps) (reverse news) (in-order h rows ps held) n in (
@@ -141,20 +141,20 @@ charmap-before l ls ps t h rows held n c (body, tail, news, are, each, end, tabl
     )
 
 -- a header line of the grammar gives its key one value more
-known-held : (lim : Limits) (h : Head) (rows : List (List ℕ)) (ps : List Pair) (k : Key) (v : Value) (w : List ℕ) (p : Pair) → Held h rows ps
-    → inForm (keyConditions lim h k v) ≡ Fine → k ≡ keyOf (p .key) → v ≡ valueOf k (p .value) → w ≡ p .value → Held (keep h v) (keepRow v w rows) (p ∷ ps)
+known-held : (lim : Limits) (h : Keys) (rows : List (List Cell)) (ps : List Pair) (k : Key) (v : Value) (w : List ℕ) (p : Pair) → Held h rows ps
+    → inForm (keyConditions lim h (length rows) k v) ≡ Fine → k ≡ keyOf (p .key) → v ≡ valueOf k (p .value) → w ≡ p .value → Held (keep h v) (keepRow v w rows) (p ∷ ps)
 unfolding keyConditions
 known-held lim h rows ps k v w p held fine key value part =
-    let f : inForm (keyConditions lim h k (valueOf k (p .value))) ≡ Fine = sym (ap (λ (x : Value). inForm (keyConditions lim h k x)) value) ∙ fine in
-    let n = lowest-fine (keyConditions lim h k (valueOf k (p .value))) (sym (key-form lim h k (valueOf k (p .value))) ∙ f) in
+    let f : inForm (keyConditions lim h (length rows) k (valueOf k (p .value))) ≡ Fine = sym (ap (λ (x : Value). inForm (keyConditions lim h (length rows) k x)) value) ∙ fine in
+    let n = lowest-fine (keyConditions lim h (length rows) k (valueOf k (p .value))) (sym (key-form lim h (length rows) k (valueOf k (p .value))) ∙ f) in
     let m = subst (KeyMeans (p .key)) (sym key) (key-means (p .key)) in
     let g = key-passes lim h rows ps (p .value) held (p .key) k m (n .0) (n .1 .0) (n .1 .1 .0) (n .1 .1 .1 .0) in
     subst (λ (x : Value). Held (keep h x) (keepRow x w rows) (p ∷ ps)) (sym value)
     (subst (λ (x : List ℕ). Held (keep h (valueOf k (p .value))) (keepRow (valueOf k (p .value)) x rows) (p ∷ ps)) (sym part) g)
 
-header-go : (lim : Limits) (t : Table) (ls : List (List ℕ)) (k : ℕ) (h : Head) (rows : List (List ℕ)) (ps : List Pair) → Held h rows ps
+header-go : (lim : Limits) (t : Table) (ls : List (List ℕ)) (k : ℕ) (h : Keys) (rows : List (List Cell)) (ps : List Pair) → Held h rows ps
     → loadGo inForm lim k ls (went (reading Header h rows [])) ≡ accepted t → HeaderRest ls ps t
-unfolding loadGo phaseStep headerStep outcomeAt
+unfolding loadGo inForm outcomeAt
 header-go lim t [] k h rows ps held e = absurd (refused-accepted _ _ t e)
 header-go lim t (l ∷ ls) k h rows ps held e = by-line (lineOf l) (line-written l) (header-go lim t ls (k + 1)) e
   where
@@ -162,19 +162,19 @@ header-go lim t (l ∷ ls) k h rows ps held e = by-line (lineOf l) (line-written
     longer x y are = ap (λ (z : List (List ℕ)). l ∷ z) are
 
     by-line : (x : HeaderLine) → LineMeans l x
-        → ((g : Head) (rs : List (List ℕ)) (qs : List Pair) → Held g rs qs → loadGo inForm lim (k + 1) ls (went (reading Header g rs [])) ≡ accepted t → HeaderRest ls qs t)
-        → loadGo inForm lim (k + 1) ls (headerStep inForm lim h rows l x) ≡ accepted t → HeaderRest (l ∷ ls) ps t
+        → ((g : Keys) (rs : List (List Cell)) (qs : List Pair) → Held g rs qs → loadGo inForm lim (k + 1) ls (went (reading Header g rs [])) ≡ accepted t → HeaderRest ls qs t)
+        → loadGo inForm lim (k + 1) ls (judgedBy inForm (headerAsks lim h rows l x)) ≡ accepted t → HeaderRest (l ∷ ls) ps t
     by-line header.NoForm m ih x = stopped lim (k + 1) ls _ t x
     by-line header.Blank m ih x = let (pairs, header, tail, are, keys, rest, y) = ih h rows ps held x in (pairs, l ∷ header, tail, longer header tail are, inl (m, keys), rest, y)
     by-line header.Charmap m ih x = by-verdict (inForm (charmapConditions h rows)) refl x
       where
         by-verdict : (v : Verdict) → inForm (charmapConditions h rows) ≡ v
-            → loadGo inForm lim (k + 1) ls (judged v (reading Mappings (headAt h (rowsAt h rows)) (rowsAt h rows) [])) ≡ accepted t → HeaderRest (l ∷ ls) ps t
-        by-verdict Fine f y = charmap-before l ls ps t h rows held (charmap-fine h rows f) m (body-go lim t ls (k + 1) (headAt h (rowsAt h rows)) (rowsAt h rows) [] y)
+            → loadGo inForm lim (k + 1) ls (judged v (reading Mappings h (rowsAt h rows) [])) ≡ accepted t → HeaderRest (l ∷ ls) ps t
+        by-verdict Fine f y = charmap-before l ls ps t h rows held (charmap-fine h rows f) m (body-go lim t ls (k + 1) h (rowsAt h rows) [] y)
         by-verdict (Refuse r) f y = stopped lim (k + 1) ls r t y
-    by-line (header.Known i v q z) (p, line, key, value, part) ih x = by-verdict (inForm (keyConditions lim h i v)) refl x
+    by-line (header.Known i v q z) (p, line, key, value, part) ih x = by-verdict (inForm (keyConditions lim h (length rows) i v)) refl x
       where
-        by-verdict : (y : Verdict) → inForm (keyConditions lim h i v) ≡ y
+        by-verdict : (y : Verdict) → inForm (keyConditions lim h (length rows) i v) ≡ y
             → loadGo inForm lim (k + 1) ls (judged y (reading Header (keep h v) (keepRow v (take (z - q) (drop q l)) rows) [])) ≡ accepted t → HeaderRest (l ∷ ls) ps t
         by-verdict Fine f y =
             let g = known-held lim h rows ps i v (take (z - q) (drop q l)) p held f key value part in
@@ -183,7 +183,7 @@ header-go lim t (l ∷ ls) k h rows ps held e = by-line (lineOf l) (line-written
         by-verdict (Refuse r) f y = stopped lim (k + 1) ls r t y
 
 -- before the first line
-start-held : Held emptyHead [] []
+start-held : Held noKeys [] []
 unfolding valuesOf
 start-held = (
   (unset, unset, unset, unset, unset, unset),
@@ -196,7 +196,7 @@ start-held = (
 pub text-written : (lim : Limits) (text : List ℕ) (t : Table) → readOf lim text ≡ accepted t → TableText text t
 unfolding readOf
 text-written lim text t e =
-    let (pairs, header, tail, are, keys, (charmap, body, last, lines, c, each, (end, rest, ends, d, blanks)), says) = header-go lim t (linesOf text) 0 emptyHead [] [] start-held e in
+    let (pairs, header, tail, are, keys, (charmap, body, last, lines, c, each, (end, rest, ends, d, blanks)), says) = header-go lim t (linesOf text) 0 noKeys [] [] start-held e in
     let all : linesOf text ≡ header ++ (charmap ∷ (body ++ (end ∷ rest))) =
     are ∙ ap (λ (x : List (List ℕ)). header ++ x) (lines ∙ ap (λ (x : List (List ℕ)). charmap ∷ (body ++ x)) ends) in
     record {
@@ -223,38 +223,35 @@ goes : (lim : Limits) (k : ℕ) (l : List ℕ) (ls : List (List ℕ)) (r q : Rea
 unfolding loadGo
 goes lim k l ls r q e = ap (loadGo inForm lim (k + 1) ls) e
 
-module _ (lim : Limits) (h : Head) (rows : List (List ℕ)) where
+module _ (lim : Limits) (h : Keys) (rows : List (List Cell)) where
   blank-ended : (ms : List Line) (l : List ℕ) → BlankLine l → stepOf inForm lim (reading Ended h rows ms) l ≡ went (reading Ended h rows ms)
-  unfolding phaseStep lastStep
-  blank-ended ms l b = ap (lastStep h rows ms) (blank-last l b)
+  unfolding inForm
+  blank-ended ms l b = ap (λ (f : Form). judgedBy inForm (lastAsks h rows ms f)) (blank-last l b)
 
   blank-mapped : (ms : List Line) (l : List ℕ) → BlankLine l → stepOf inForm lim (reading Mappings h rows ms) l ≡ went (reading Mappings h rows ms)
-  unfolding phaseStep mappingStep
-  blank-mapped ms l b = ap (mappingStep inForm lim h rows ms) (blank-body l b)
+  unfolding inForm
+  blank-mapped ms l b = ap (λ (f : Form). judgedBy inForm (mappingAsks lim h rows ms f)) (blank-body l b)
 
   line-mapped : (ms : List Line) (n : Line) (l : List ℕ) → MappingLine n l → stepOf inForm lim (reading Mappings h rows ms) l ≡ went (reading Mappings h rows (n ∷ ms))
-  unfolding phaseStep
-  line-mapped ms n l m = ap (mappingStep inForm lim h rows ms) (mapping-line-reads n l m) ∙ mapping-goes lim h rows ms (n .point) (n .code) (n .indicator)
+  line-mapped ms n l m = ap (λ (f : Form). judgedBy inForm (mappingAsks lim h rows ms f)) (mapping-line-reads n l m) ∙ mapping-goes lim h rows ms (n .point) (n .code) (n .indicator)
 
   end-mapped : (ms : List Line) (l : List ℕ) → EndLine l → stepOf inForm lim (reading Mappings h rows ms) l ≡ went (reading Ended h rows ms)
-  unfolding phaseStep mappingStep
-  end-mapped ms l e = ap (mappingStep inForm lim h rows ms) (end-body l e)
+  unfolding inForm
+  end-mapped ms l e = ap (λ (f : Form). judgedBy inForm (mappingAsks lim h rows ms f)) (end-body l e)
 
   blank-headed : (l : List ℕ) → BlankLine l → stepOf inForm lim (reading Header h rows []) l ≡ went (reading Header h rows [])
-  unfolding phaseStep headerStep
-  blank-headed l b = ap (headerStep inForm lim h rows l) (blank-line-reads l b)
+  unfolding inForm
+  blank-headed l b = ap (λ (x : HeaderLine). judgedBy inForm (headerAsks lim h rows l x)) (blank-line-reads l b)
 
   charmap-headed : (l : List ℕ) → CharmapLine l → inForm (charmapConditions h rows) ≡ Fine
-      → stepOf inForm lim (reading Header h rows []) l ≡ went (reading Mappings (headAt h (rowsAt h rows)) (rowsAt h rows) [])
-  unfolding phaseStep headerStep
+      → stepOf inForm lim (reading Header h rows []) l ≡ went (reading Mappings h (rowsAt h rows) [])
   charmap-headed l c f =
-      ap (headerStep inForm lim h rows l) (charmap-line-reads l c) ∙ ap (λ (v : Verdict). judged v (reading Mappings (headAt h (rowsAt h rows)) (rowsAt h rows) [])) f
+      ap (λ (x : HeaderLine). judgedBy inForm (headerAsks lim h rows l x)) (charmap-line-reads l c) ∙ ap (λ (v : Verdict). judged v (reading Mappings h (rowsAt h rows) [])) f
 
-  key-headed : (l : List ℕ) (k : Key) (v : Value) (q e : ℕ) → lineOf l ≡ header.Known k v q e → inForm (keyConditions lim h k v) ≡ Fine
+  key-headed : (l : List ℕ) (k : Key) (v : Value) (q e : ℕ) → lineOf l ≡ header.Known k v q e → inForm (keyConditions lim h (length rows) k v) ≡ Fine
       → stepOf inForm lim (reading Header h rows []) l ≡ went (reading Header (keep h v) (keepRow v (take (e - q) (drop q l)) rows) [])
-  unfolding phaseStep headerStep
   key-headed l k v q e told f =
-      ap (headerStep inForm lim h rows l) told ∙ ap (λ (x : Verdict). judged x (reading Header (keep h v) (keepRow v (take (e - q) (drop q l)) rows) [])) f
+      ap (λ (x : HeaderLine). judgedBy inForm (headerAsks lim h rows l x)) told ∙ ap (λ (x : Verdict). judged x (reading Header (keep h v) (keepRow v (take (e - q) (drop q l)) rows) [])) f
 
   -- blank lines behind END CHARMAP
   last-lines : (ls : List (List ℕ)) (k : ℕ) (ms : List Line) → All BlankLine ls → loadGo inForm lim k ls (went (reading Ended h rows ms)) ≡ accepted (tableWith h rows ms)
@@ -275,29 +272,29 @@ module _ (lim : Limits) (h : Head) (rows : List (List ℕ)) where
       ∙ body-lines end rest e b body (k + 1) more (n ∷ ms) l ∙ ap (λ (x : List Line). accepted (tableWith h rows (reverseAux x ms))) (sym are)
 
 -- the conditions of a line that passes
-key-fine : (lim : Limits) (h : Head) (k : Key) (v : Value) → Asked lim h k v → inForm (keyConditions lim h k v) ≡ Fine
+key-fine : (lim : Limits) (h : Keys) (n : ℕ) (k : Key) (v : Value) → Asked lim h n k v → inForm (keyConditions lim h n k v) ≡ Fine
 unfolding keyConditions
-key-fine lim h k v a = none-in-form (keyConditions lim h k v) (a .again, (a .fit, (a .built, (a .ranged, tt))))
+key-fine lim h n k v a = none-in-form (keyConditions lim h n k v) (a .again, (a .fit, (a .built, (a .ranged, tt))))
 
-charmap-passes : (h : Head) (rows : List (List ℕ)) → n13 h ≡ false → inForm (charmapConditions h rows) ≡ Fine
+charmap-passes : (h : Keys) (rows : List (List Cell)) → n13 h (length rows) ≡ false → inForm (charmapConditions h rows) ≡ Fine
 unfolding inForm charmapConditions
 charmap-passes h rows n = rw n
 
 module _ (lim : Limits) (t : Table) (charmap : List ℕ) (body : List (List ℕ)) (end : List ℕ) (rest : List (List ℕ))
     (c : CharmapLine charmap) (m : Listed MappingLine (reverse (t .lines)) body) (e : EndLine end) (b : All BlankLine rest) where
   -- CHARMAP and what follows it
-  charmap-lines : (k : ℕ) (h : Head) (rows : List (List ℕ)) (ps : List Pair) → Ordered h rows ps → HeaderSays ps t
+  charmap-lines : (k : ℕ) (h : Keys) (rows : List (List Cell)) (ps : List Pair) → Ordered h rows ps → HeaderSays ps t
       → loadGo inForm lim k (charmap ∷ (body ++ (end ∷ rest))) (went (reading Header h rows [])) ≡ accepted t
   charmap-lines k h rows ps held y =
       let n = nothing-absent h rows ps t held y in
-      let hd : Head = headAt h (rowsAt h rows) in
+      let hd : Keys = h in
       let u : Table = tableWith hd (rowsAt h rows) (reverse (reverse (t .lines))) in
       let z : u ≡ t = says-one ps u t (header-said h rows ps (reverse (reverse (t .lines))) held n) y (reverse-reverse (t .lines)) in
       goes lim k charmap (body ++ (end ∷ rest)) (reading Header h rows []) (reading Mappings hd (rowsAt h rows) []) (charmap-headed lim h rows charmap c (charmap-passes h rows n))
       ∙ body-lines lim hd (rowsAt h rows) end rest e b body (k + 1) (reverse (t .lines)) [] m ∙ ap accepted z
 
   -- ps are the keys so far, the last one first, and qs those to come
-  header-lines : (header : List (List ℕ)) (k : ℕ) (h : Head) (rows : List (List ℕ)) (ps qs : List Pair) → Held h rows ps → Listed KeyLine qs header
+  header-lines : (header : List (List ℕ)) (k : ℕ) (h : Keys) (rows : List (List Cell)) (ps qs : List Pair) → Held h rows ps → Listed KeyLine qs header
       → (y : HeaderSays (reverseAux ps qs) t) → length (y .entries) ≤ lim .rows
       → loadGo inForm lim k (header ++ (charmap ∷ (body ++ (end ∷ rest)))) (went (reading Header h rows [])) ≡ accepted t
   header-lines [] k h rows ps qs held l y room =
@@ -312,7 +309,7 @@ module _ (lim : Limits) (t : Table) (charmap : List ℕ) (body : List (List ℕ)
       let w : List ℕ = take (told .to - told .from) (drop (told .from) s) in
       let y2 : (z : HeaderSays (reverseAux ps (p ∷ more)) t) × (length (z .entries) ≤ lim .rows)
       = subst (λ (x : List Pair). (z : HeaderSays (reverseAux ps x) t) × (length (z .entries) ≤ lim .rows)) are (y, room) in
-      let f = key-fine lim h i v (key-asked lim h rows ps more (p .value) t held (p .key) i (key-means (p .key)) (y2 .0) (y2 .1)) in
+      let f = key-fine lim h (length rows) i v (key-asked lim h rows ps more (p .value) t held (p .key) i (key-means (p .key)) (y2 .0) (y2 .1)) in
       goes lim k s (header ++ (charmap ∷ (body ++ (end ∷ rest)))) (reading Header h rows []) (reading Header (keep h v) (keepRow v w rows) [])
       (key-headed lim h rows s i v (told .from) (told .to) (told .line) f)
       ∙ header-lines header (k + 1) (keep h v) (keepRow v w rows) (p ∷ ps) more (known-held lim h rows ps i v w p held f refl refl (told .part)) l (y2 .0) (y2 .1)
@@ -329,7 +326,7 @@ pub text-reads : (lim : Limits) (text : List ℕ) (t : Table) → TableText text
 unfolding readOf
 text-reads lim text t x h =
     ap (λ (ls : List (List ℕ)). loadGo inForm lim 0 ls (went start)) (lines-reads (x .header ++ (x .charmap ∷ (x .body ++ (x .ending ∷ x .rest)))) text (x .lines))
-    ∙ header-lines lim t (x .charmap) (x .body) (x .ending) (x .rest) (x .charmap-line) (x .mappings) (x .end-line) (x .nothing-else) (x .header) 0 emptyHead [] [] (x .pairs)
+    ∙ header-lines lim t (x .charmap) (x .body) (x .ending) (x .rest) (x .charmap-line) (x .mappings) (x .end-line) (x .nothing-else) (x .header) 0 noKeys [] [] (x .pairs)
     start-held (x .keys) (x .says) (entries-few (lim .rows) (x .pairs) t (x .says) h)
 
 -- ## Exactly when

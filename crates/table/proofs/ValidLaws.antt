@@ -14,21 +14,26 @@ use Rattle.lists.specs.Order.{All, In, Rising, rises, sort}
 use Rattle.lists.proofs.Order.{all-map, all-both, all-of, all-in, map-all, map-in, in-map, sort-all, sort-in, in-sort, sort-length}
 use Rattle.lists.proofs.Choice.{both-swap}
 use Rattle.lists.proofs.AllParts.{all-take}
+use Rattle.lists.proofs.Parts.{map-take}
 use Rattle.lists.proofs.Sorting.{sort-same}
 use Rattle.lists.proofs.Laws.{clash, both, both-left, both-right}
-use Rattle.table.specs.Limits.{limits, needed}
-use Rattle.table.specs.States.{Rows, stepOf, stepAt, endKind, isCode, leadsTo}
+use Rattle.table.specs.Limits.{Limits, needed}
+use Rattle.table.specs.Cells.{Cell, cellNumber, cellIn}
+use Rattle.table.specs.States.{Rows, stepAt, endKind, isCode}
 use Rattle.table.specs.Codes.{codeOf, bytesOf, packed, unpacked}
-use Rattle.table.specs.Meaning.{Line, Table, flat, stepsOf}
-use Rattle.table.specs.Rules.{allOf, Keeps, t2Row, t1Rows, t1Lines, t1Sizes, t3, t4Sub, t4Sub1, t5, t6, t7, t8}
+use Rattle.table.specs.Meaning.{Line, Table, flat, stepsOn, stepsOf}
+use Rattle.table.specs.Rules.{allOf, Keeps, t1Rows, t1Lines, t1Sizes, t2, t3, t4Sub, t4Sub1, t5, t6, t7, t8}
 use Rattle.table.specs.Entry.{Entry, bitsOf, infoOf, padded, entryOk, entryOf, lineIn, less, readNext, AllApart}
-use Rattle.table.specs.Memory.{entries, sorted, orderOf, filled, known, sub1Of, sub1In, recordOf, Stored, Form, Proper, pieces, tableIn}
+use Rattle.table.specs.Slices.{Slices}
+use Rattle.table.specs.Memory.{entries, sorted, orderOf, filled, numbersOf, sub1Of, sub1In, recordOf, Stored, Form, Proper, pieces, tableIn, linesIn}
 use Rattle.table.specs.Progress.{GoodLine}
 use Rattle.table.specs.Valid.{zeros, stateOk, statesOk, recordOk, lineOk, ordered, storeOk, valid, Kept}
 use Rattle.table.specs.declared.valid.Record.{Record}
-use Rattle.table.proofs.Depth.{StatesKept, states-kept, short-code}
+use Rattle.table.proofs.Depth.{StatesKept, states-kept}
+use Rattle.table.proofs.KeptSizes.{kept-short}
 use Rattle.table.proofs.LineLaws.{all-true, true-all, good-stored, entry-line, t9-apart, apart-t9, line-entry, entry-of-ok, keeps-good, form-kept, form-held}
-use Rattle.table.proofs.RowLaws.{filled-steps, length-flat}
+use Rattle.table.proofs.CellLaws.{numbers-one}
+use Rattle.table.proofs.RowLaws.{states-t2, numbers-back, steps-filled, length-numbers}
 use Rattle.table.proofs.Packing.{unpack, packed-padded, pack-one-way, unpacked-bytes, pack-unpack, length-unpacked}
 use Rattle.table.proofs.EntryLaws.{less-irrefl, less-trans}
 use Rattle.table.proofs.Sorted.{store-form, form-store, part-filled, filled-zeros, filled-take, filled-long}
@@ -67,52 +72,47 @@ by-two true true false d e z = refl
 by-two true false c d e z = refl
 by-two false b c d e z = refl
 
-pub valid-is : (rec : Record) (states codes infos order : List ℕ) → valid limits rec states codes infos order
-    ≡ pick (recordOk limits rec)
-    (pick (pick (statesOk limits (rec .rows) states) (t3 (stepAt (take 4096 states)) (rec .max)) false)
-    (pick (pick (t4Sub (stepAt (take 4096 states)) (bytesOf (rec .subchar))) (t4Sub1 (stepAt (take 4096 states)) (sub1In (rec .subchar1))) false)
-    (pick (storeOk 2048 (rec .mappings) codes infos order) (allOf (lineOk (stepAt (take 4096 states)) rec) (entries (take (rec .mappings) codes) (take (rec .mappings) infos))) false)
+pub valid-is : (lim : Limits) (rec : Record) (m : Slices) → valid lim rec m
+    ≡ pick (recordOk lim rec)
+    (pick (pick (statesOk lim (rec .rows) (m .states)) (t3 (stepAt (take (needed lim) (m .states))) (rec .max)) false)
+    (pick (pick (t4Sub (stepAt (take (needed lim) (m .states))) (bytesOf (rec .subchar))) (t4Sub1 (stepAt (take (needed lim) (m .states))) (sub1In (rec .subchar1))) false)
+    (pick (storeOk (lim .mappings) (rec .mappings) (m .codes) (m .infos) (m .order)) (allOf (lineOk (stepAt (take (needed lim) (m .states))) rec) (entries (take (rec .mappings) (m .codes)) (take (rec .mappings) (m .infos)))) false)
     false) false) false
 unfolding valid
-valid-is rec states codes infos order =
-    by-two (recordOk limits rec) (statesOk limits (rec .rows) states) (t3 (stepAt (take 4096 states)) (rec .max))
-    (t4Sub (stepAt (take 4096 states)) (bytesOf (rec .subchar))) (t4Sub1 (stepAt (take 4096 states)) (sub1In (rec .subchar1)))
-    (pick (storeOk 2048 (rec .mappings) codes infos order) (allOf (lineOk (stepAt (take 4096 states)) rec) (entries (take (rec .mappings) codes) (take (rec .mappings) infos))) false)
+valid-is lim rec m =
+    by-two (recordOk lim rec) (statesOk lim (rec .rows) (m .states)) (t3 (stepAt (take (needed lim) (m .states))) (rec .max))
+    (t4Sub (stepAt (take (needed lim) (m .states))) (bytesOf (rec .subchar))) (t4Sub1 (stepAt (take (needed lim) (m .states))) (sub1In (rec .subchar1)))
+    (pick (storeOk (lim .mappings) (rec .mappings) (m .codes) (m .infos) (m .order)) (allOf (lineOk (stepAt (take (needed lim) (m .states))) rec) (entries (take (rec .mappings) (m .codes)) (take (rec .mappings) (m .infos)))) false)
 
 -- what the record's test gives
-pub record RecordKept (rec : Record) : Type 0 where
+pub record RecordKept (lim : Limits) (rec : Record) : Type 0 where
   pub least-rows : 1 ≤ rec .rows
-  pub most-rows : rec .rows ≤ 16
-  pub few-lines : rec .mappings ≤ 2048
-  pub least-min : 1 ≤ rec .min
-  pub min-max : rec .min ≤ rec .max
-  pub most-max : rec .max ≤ 4
+  pub most-rows : rec .rows ≤ lim .rows
+  pub few-lines : rec .mappings ≤ lim .mappings
+  pub sizes : t1Sizes (rec .min) (rec .max) ≡ true
   pub sub-padded : padded (rec .subchar .len) (rec .subchar .bits) ≡ true
   pub sub1-byte : rec .subchar1 ≤ 256
 
-pub record-kept : (rec : Record) → recordOk limits rec ≡ true → RecordKept rec
+pub record-kept : (lim : Limits) (rec : Record) → recordOk lim rec ≡ true → RecordKept lim rec
 unfolding recordOk
-record-kept rec h =
-    let a = both-left (t1Rows limits (rec .rows)) _ h in
-    let h1 = both-right (t1Rows limits (rec .rows)) _ h in
-    let b = both-left (t1Lines limits (rec .mappings)) _ h1 in
-    let h2 = both-right (t1Lines limits (rec .mappings)) _ h1 in
+record-kept lim rec h =
+    let a = both-left (t1Rows lim (rec .rows)) _ h in
+    let h1 = both-right (t1Rows lim (rec .rows)) _ h in
+    let b = both-left (t1Lines lim (rec .mappings)) _ h1 in
+    let h2 = both-right (t1Lines lim (rec .mappings)) _ h1 in
     let c = both-left (t1Sizes (rec .min) (rec .max)) _ h2 in
     let h3 = both-right (t1Sizes (rec .min) (rec .max)) _ h2 in
-    let c1 = both-right (leb 1 (rec .min)) _ c in
     record {
       least-rows = leb-true 1 (rec .rows) (both-left (leb 1 (rec .rows)) _ a);
-      most-rows = leb-true (rec .rows) 16 (both-right (leb 1 (rec .rows)) _ a);
-      few-lines = leb-true (rec .mappings) 2048 b;
-      least-min = leb-true 1 (rec .min) (both-left (leb 1 (rec .min)) _ c);
-      min-max = leb-true (rec .min) (rec .max) (both-left (leb (rec .min) (rec .max)) _ c1);
-      most-max = leb-true (rec .max) 4 (both-right (leb (rec .min) (rec .max)) _ c1);
+      most-rows = leb-true (rec .rows) (lim .rows) (both-right (leb 1 (rec .rows)) _ a);
+      few-lines = leb-true (rec .mappings) (lim .mappings) b;
+      sizes = c;
       sub-padded = both-left _ _ h3;
       sub1-byte = leb-true (rec .subchar1) 256 (both-right (padded (rec .subchar .len) (rec .subchar .bits)) _ h3);
     }
 
-pub states-long : (n : ℕ) (states : List ℕ) (t : Bool) → pick (statesOk limits n states) t false ≡ true → 4096 ≤ length states
-states-long n states t h = states-kept n states (both-left (statesOk limits n states) t h) .long
+pub states-long : (lim : Limits) (n : ℕ) (states : List ℕ) (t : Bool) → pick (statesOk lim n states) t false ≡ true → needed lim ≤ length states
+states-long lim n states t h = states-kept lim n states (both-left (statesOk lim n states) t h) .long
 
 -- T4 of subchar1, as a code of one byte on top
 pub t4-one : (step : Rows) (n : ℕ) → (n ≡ 0 → ⊥) → t4Sub1 step (sub1In n) ≡ isCode step 0 (unpacked 1 ((n - 1) * 16777216))
@@ -122,35 +122,49 @@ t4-one step n d = let q : (n - 1) * 16777216 / 16777216 ≡ n - 1 = omega arith 
 pub t4-none : (step : Rows) (n : ℕ) → n ≡ 0 → t4Sub1 step (sub1In n) ≡ true
 t4-none step n e = rw e
 
-rows-count : (n : ℕ) (ts : List ℕ) → length (pieces n ts) ≡ n
+rows-count : (n : ℕ) (cs : List Cell) → length (pieces n cs) ≡ n
 unfolding pieces
-rows-count zero ts = refl
-rows-count (suc n) ts = ap suc (rows-count n (drop 256 ts))
+rows-count zero cs = refl
+rows-count (suc n) cs = ap suc (rows-count n (drop 256 cs))
 
-rows-full : (n : ℕ) (ts : List ℕ) → n * 256 ≤ length ts → All (λ r. length r ≡ 256) (pieces n ts)
+rows-full : (n : ℕ) (cs : List Cell) → n * 256 ≤ length cs → All (λ r. length r ≡ 256) (pieces n cs)
 unfolding pieces
-rows-full zero ts h = tt
-rows-full (suc n) ts h = (length-take-le 256 ts (omega arith), rows-full n (drop 256 ts) (omega (arith, length-drop 256 ts)))
+rows-full zero cs h = tt
+rows-full (suc n) cs h = (length-take-le 256 cs (omega arith), rows-full n (drop 256 cs) (omega (arith, length-drop 256 cs)))
 
-rows-flat : (n : ℕ) (ts : List ℕ) → flat (pieces n ts) ≡ take (n * 256) ts
+rows-flat : (n : ℕ) (cs : List Cell) → flat (pieces n cs) ≡ take (n * 256) cs
 unfolding pieces flat
-rows-flat zero ts = refl
-rows-flat (suc n) ts =
+rows-flat zero cs = refl
+rows-flat (suc n) cs =
     let e : 256 + n * 256 ≡ suc n * 256 = omega arith in
-    ap (λ (l : List ℕ). take 256 ts ++ l) (rows-flat n (drop 256 ts)) ∙ sym (take-add 256 (n * 256) ts) ∙ ap (λ (k : ℕ). take k ts) e
+    ap (λ (l : List Cell). take 256 cs ++ l) (rows-flat n (drop 256 cs)) ∙ sym (take-add 256 (n * 256) cs) ∙ ap (λ (k : ℕ). take k cs) e
 
-flat-one : (rs ss : List (List ℕ)) → All (λ r. length r ≡ 256) rs → All (λ r. length r ≡ 256) ss → length rs ≡ length ss → flat rs ≡ flat ss → rs ≡ ss
+-- numbers that pass the test, as rows of cells
+rows-numbers : (n : ℕ) (ts : List ℕ) → allOf (stateOk n) (take (n * 256) ts) ≡ true → numbersOf (pieces n (map cellIn ts)) ≡ take (n * 256) ts
+rows-numbers n ts h =
+    ap (map cellNumber) (rows-flat n (map cellIn ts) ∙ sym (map-take cellIn (n * 256) ts)) ∙ numbers-back n (take (n * 256) ts) h
+
+-- states that pass are the numbers of their rows one behind the other, and zeros
+states-filled : (lim : Limits) (n : ℕ) (states : List ℕ) → n ≤ lim .rows → statesOk lim n states ≡ true → take (needed lim) states ≡ filled (needed lim) (numbersOf (pieces n (map cellIn states)))
+states-filled lim n states few h =
+    let k = states-kept lim n states h in
+    part-filled (needed lim) (n * 256) states (omega arith) (k .long) (k .behind) ∙ ap (filled (needed lim)) (sym (rows-numbers n states (k .entries)))
+
+pub states-say : (lim : Limits) (n : ℕ) (states : List ℕ) → n ≤ lim .rows → statesOk lim n states ≡ true → stepAt (take (needed lim) states) ≡ stepsOn (pieces n (map cellIn states))
+states-say lim n states few h = steps-filled (needed lim) (pieces n (map cellIn states)) (take (needed lim) states) (states-filled lim n states few h)
+
+flat-one : (rs ss : List (List Cell)) → All (λ r. length r ≡ 256) rs → All (λ r. length r ≡ 256) ss → length rs ≡ length ss → flat rs ≡ flat ss → rs ≡ ss
 unfolding flat
 flat-one [] [] h k n e = refl
 flat-one [] (s ∷ ss) h k n e = absurd (omega arith)
 flat-one (r ∷ rs) [] h k n e = absurd (omega arith)
 flat-one (r ∷ rs) (s ∷ ss) h k n e =
-    let head : r ≡ s = sym (take-at r (flat rs) 256 (h .0)) ∙ ap (λ (l : List ℕ). take 256 l) e ∙ take-at s (flat ss) 256 (k .0) in
-    let tail : flat rs ≡ flat ss = sym (drop-at r (flat rs) 256 (h .0)) ∙ ap (λ (l : List ℕ). drop 256 l) e ∙ drop-at s (flat ss) 256 (k .0) in
+    let head : r ≡ s = sym (take-at r (flat rs) 256 (h .0)) ∙ ap (λ (l : List Cell). take 256 l) e ∙ take-at s (flat ss) 256 (k .0) in
+    let tail : flat rs ≡ flat ss = sym (drop-at r (flat rs) 256 (h .0)) ∙ ap (λ (l : List Cell). drop 256 l) e ∙ drop-at s (flat ss) 256 (k .0) in
     (λ i. head i ∷ flat-one rs ss (h .1) (k .1) (omega arith) tail i)
 
 -- subchar1 as a number and back
-sub1-back : (n : ℕ) → sub1Of (sub1In n) ≡ n
+pub sub1-back : (n : ℕ) → sub1Of (sub1In n) ≡ n
 sub1-back n = go (eqb n 0) refl
   where
     go : (t : Bool) → eqb n 0 ≡ t → sub1Of (pick t none (some (n - 1))) ≡ n
@@ -160,18 +174,6 @@ sub1-back n = go (eqb n 0) refl
 pub back-sub1 : (o : Option ℕ) → sub1In (sub1Of o) ≡ o
 back-sub1 none = refl
 back-sub1 (some b) = let q : 1 + b - 1 ≡ b = omega arith in rw (ne-eqb (1 + b) 0 (λ e. omega arith), q)
-
--- a test of every element: of the form and T2
-both-tests : (f g : ℕ → Bool) (l : List ℕ) → allOf f l ≡ true → allOf g l ≡ true → allOf (λ e. pick (f e) (g e) false) l ≡ true
-both-tests f g l p q =
-    true-all (λ e. pick (f e) (g e) false) l
-    (all-map (λ e (w : (f e ≡ true) × (g e ≡ true)). both (f e) (g e) (w .0) (w .1)) l (all-both (λ e. f e ≡ true) (λ e. g e ≡ true) l (all-true f l p) (all-true g l q)))
-
-first-test : (f g : ℕ → Bool) (l : List ℕ) → allOf (λ e. pick (f e) (g e) false) l ≡ true → allOf f l ≡ true
-first-test f g l h = true-all f l (all-map (λ e w. both-left (f e) (g e) w) l (all-true (λ e. pick (f e) (g e) false) l h))
-
-second-test : (f g : ℕ → Bool) (l : List ℕ) → allOf (λ e. pick (f e) (g e) false) l ≡ true → allOf g l ≡ true
-second-test f g l h = true-all g l (all-map (λ e w. both-right (f e) (g e) w) l (all-true (λ e. pick (f e) (g e) false) l h))
 
 -- the rules of a stored line
 pub record LineKept (step : Rows) (rec : Record) (e : Entry) : Type 0 where
@@ -203,46 +205,54 @@ kept-line step rec e k =
     (both (t6 (lineIn e)) _ (k .keeps-6)
     (both (t7 (lineIn e)) _ (k .keeps-7) (k .keeps-8))))
 
-lines-map : (f : Entry → Bool) (g : Line → Bool) (es : List Entry) → All (λ e. f e ≡ true) es → ((e : Entry) → f e ≡ true → g (lineIn e) ≡ true) → allOf g (map lineIn es) ≡ true
-lines-map f g es h q = true-all g (map lineIn es) (map-all lineIn (λ l. g l ≡ true) es (all-map q es h))
+lines-map : (P : Entry → Type 0) (g : Line → Bool) (es : List Entry) → All P es → ((e : Entry) → P e → g (lineIn e) ≡ true) → allOf g (map lineIn es) ≡ true
+lines-map P g es h q = true-all g (map lineIn es) (map-all lineIn (λ l. g l ≡ true) es (all-map q es h))
 
 -- THE TEST, taken apart
-pub record Tested (rec : Record) (states codes infos order : List ℕ) : Type 0 where
-  pub rec-ok : recordOk limits rec ≡ true
-  pub states-ok : statesOk limits (rec .rows) states ≡ true
-  pub deep : t3 (stepAt (take 4096 states)) (rec .max) ≡ true
-  pub sub : t4Sub (stepAt (take 4096 states)) (bytesOf (rec .subchar)) ≡ true
-  pub sub1 : t4Sub1 (stepAt (take 4096 states)) (sub1In (rec .subchar1)) ≡ true
-  pub store-ok : storeOk 2048 (rec .mappings) codes infos order ≡ true
-  pub lines-ok : allOf (lineOk (stepAt (take 4096 states)) rec) (entries (take (rec .mappings) codes) (take (rec .mappings) infos)) ≡ true
+pub record Tested (lim : Limits) (rec : Record) (m : Slices) : Type 0 where
+  pub rec-ok : recordOk lim rec ≡ true
+  pub states-ok : statesOk lim (rec .rows) (m .states) ≡ true
+  pub deep : t3 (stepAt (take (needed lim) (m .states))) (rec .max) ≡ true
+  pub sub : t4Sub (stepAt (take (needed lim) (m .states))) (bytesOf (rec .subchar)) ≡ true
+  pub sub1 : t4Sub1 (stepAt (take (needed lim) (m .states))) (sub1In (rec .subchar1)) ≡ true
+  pub store-ok : storeOk (lim .mappings) (rec .mappings) (m .codes) (m .infos) (m .order) ≡ true
+  pub lines-ok : allOf (lineOk (stepAt (take (needed lim) (m .states))) rec) (entries (take (rec .mappings) (m .codes)) (take (rec .mappings) (m .infos))) ≡ true
 
-pub tested : (rec : Record) (states codes infos order : List ℕ) → valid limits rec states codes infos order ≡ true → Tested rec states codes infos order
+pub tested : (lim : Limits) (rec : Record) (m : Slices) → valid lim rec m ≡ true → Tested lim rec m
 unfolding valid
-tested rec states codes infos order h =
-    let h1 = both-right (recordOk limits rec) _ h in
-    let h2 = both-right (statesOk limits (rec .rows) states) _ h1 in
-    let h3 = both-right (t3 (stepAt (take 4096 states)) (rec .max)) _ h2 in
-    let h4 = both-right (t4Sub (stepAt (take 4096 states)) (bytesOf (rec .subchar))) _ h3 in
-    let h5 = both-right (t4Sub1 (stepAt (take 4096 states)) (sub1In (rec .subchar1))) _ h4 in
+tested lim rec m h =
+    let h1 = both-right (recordOk lim rec) _ h in
+    let h2 = both-right (statesOk lim (rec .rows) (m .states)) _ h1 in
+    let h3 = both-right (t3 (stepAt (take (needed lim) (m .states))) (rec .max)) _ h2 in
+    let h4 = both-right (t4Sub (stepAt (take (needed lim) (m .states))) (bytesOf (rec .subchar))) _ h3 in
+    let h5 = both-right (t4Sub1 (stepAt (take (needed lim) (m .states))) (sub1In (rec .subchar1))) _ h4 in
     record {
-      rec-ok = both-left (recordOk limits rec) _ h;
-      states-ok = both-left (statesOk limits (rec .rows) states) _ h1;
-      deep = both-left (t3 (stepAt (take 4096 states)) (rec .max)) _ h2;
-      sub = both-left (t4Sub (stepAt (take 4096 states)) (bytesOf (rec .subchar))) _ h3;
-      sub1 = both-left (t4Sub1 (stepAt (take 4096 states)) (sub1In (rec .subchar1))) _ h4;
-      store-ok = both-left (storeOk 2048 (rec .mappings) codes infos order) _ h5;
-      lines-ok = both-right (storeOk 2048 (rec .mappings) codes infos order) _ h5;
+      rec-ok = both-left (recordOk lim rec) _ h;
+      states-ok = both-left (statesOk lim (rec .rows) (m .states)) _ h1;
+      deep = both-left (t3 (stepAt (take (needed lim) (m .states))) (rec .max)) _ h2;
+      sub = both-left (t4Sub (stepAt (take (needed lim) (m .states))) (bytesOf (rec .subchar))) _ h3;
+      sub1 = both-left (t4Sub1 (stepAt (take (needed lim) (m .states))) (sub1In (rec .subchar1))) _ h4;
+      store-ok = both-left (storeOk (lim .mappings) (rec .mappings) (m .codes) (m .infos) (m .order)) _ h5;
+      lines-ok = both-right (storeOk (lim .mappings) (rec .mappings) (m .codes) (m .infos) (m .order)) _ h5;
     }
 
-untested : (rec : Record) (states codes infos order : List ℕ) → Tested rec states codes infos order → valid limits rec states codes infos order ≡ true
+untested : (lim : Limits) (rec : Record) (m : Slices) → Tested lim rec m → valid lim rec m ≡ true
 unfolding valid
-untested rec states codes infos order k =
-    both (recordOk limits rec) _ (k .rec-ok)
-    (both (statesOk limits (rec .rows) states) _ (k .states-ok)
-    (both (t3 (stepAt (take 4096 states)) (rec .max)) _ (k .deep)
-    (both (t4Sub (stepAt (take 4096 states)) (bytesOf (rec .subchar))) _ (k .sub)
-    (both (t4Sub1 (stepAt (take 4096 states)) (sub1In (rec .subchar1))) _ (k .sub1)
-    (both (storeOk 2048 (rec .mappings) codes infos order) _ (k .store-ok) (k .lines-ok))))))
+untested lim rec m k =
+    both (recordOk lim rec) _ (k .rec-ok)
+    (both (statesOk lim (rec .rows) (m .states)) _ (k .states-ok)
+    (both (t3 (stepAt (take (needed lim) (m .states))) (rec .max)) _ (k .deep)
+    (both (t4Sub (stepAt (take (needed lim) (m .states))) (bytesOf (rec .subchar))) _ (k .sub)
+    (both (t4Sub1 (stepAt (take (needed lim) (m .states))) (sub1In (rec .subchar1))) _ (k .sub1)
+    (both (storeOk (lim .mappings) (rec .mappings) (m .codes) (m .infos) (m .order)) _ (k .store-ok) (k .lines-ok))))))
+
+-- each stored line keeps the rules
+pub lines-kept : (lim : Limits) (rec : Record) (m : Slices) → Tested lim rec m
+    → All (LineKept (stepAt (take (needed lim) (m .states))) rec) (entries (take (rec .mappings) (m .codes)) (take (rec .mappings) (m .infos)))
+lines-kept lim rec m k =
+    let step = stepAt (take (needed lim) (m .states)) in
+    let es = entries (take (rec .mappings) (m .codes)) (take (rec .mappings) (m .infos)) in
+    all-map (line-kept step rec) es (all-true (lineOk step rec) es (k .lines-ok))
 
 -- bytes that are bytes
 entries-small : (a b : List ℕ) → All (λ x. x < 4294967296) a → All (λ e. e .bits < 4294967296) (entries a b)
@@ -256,62 +266,65 @@ lines-back [] h = refl
 lines-back (e ∷ es) h = (λ i. entry-line e (h .0) i ∷ lines-back es (h .1) i)
 
 -- a table whose form a memory is
-pub record Held (rec : Record) (states codes infos order : List ℕ) : Type 0 where
+pub record Held (lim : Limits) (rec : Record) (m : Slices) : Type 0 where
   pub table : Table
   pub proper : Proper table
-  pub keeps : Keeps limits table
-  pub form : Form limits table rec states codes infos order
+  pub keeps : Keeps lim table
+  pub form : Form lim table rec m
 
 -- from the test to the form
-module _ (rec : Record) (states codes infos order : List ℕ) (ok : valid limits rec states codes infos order ≡ true)
-    (small : All (λ x. x < 4294967296) codes) (sub-small : rec .subchar .bits < 4294967296) where
-  passed : Tested rec states codes infos order
-  passed = tested rec states codes infos order ok
+module _ (lim : Limits) (rec : Record) (m : Slices) (ok : valid lim rec m ≡ true)
+    (small : All (λ x. x < 4294967296) (m .codes)) (sub-small : rec .subchar .bits < 4294967296) where
+  passed : Tested lim rec m
+  passed = tested lim rec m ok
 
-  numbers : RecordKept rec
-  numbers = record-kept rec (passed .rec-ok)
+  numbers : RecordKept lim rec
+  numbers = record-kept lim rec (passed .rec-ok)
 
   abbrev n : ℕ
   n = rec .rows
 
   abbrev es : List Entry
-  es = entries (take (rec .mappings) codes) (take (rec .mappings) infos)
+  es = entries (take (rec .mappings) (m .codes)) (take (rec .mappings) (m .infos))
 
   abbrev step : Rows
-  step = stepAt (take 4096 states)
+  step = stepAt (take (needed lim) (m .states))
 
-  rows-parts : StatesKept n states
-  rows-parts = states-kept n states (passed .states-ok)
+  rows-parts : StatesKept lim n (m .states)
+  rows-parts = states-kept lim n (m .states) (passed .states-ok)
 
-  rows-fit : n * 256 ≤ 4096
+  rows-fit : n * 256 ≤ needed lim
   rows-fit = omega (arith, numbers .most-rows)
 
-  states-filled : take 4096 states ≡ filled 4096 (flat (pieces n states))
-  states-filled = part-filled 4096 (n * 256) states rows-fit (rows-parts .long) (rows-parts .behind) ∙ ap (filled 4096) (sym (rows-flat n states))
+  abbrev rows-held : List (List Cell)
+  rows-held = pieces n (map cellIn (m .states))
 
-  steps-same : step ≡ stepAt (flat (pieces n states))
-  steps-same = ap stepAt states-filled ∙ filled-steps 4096 (flat (pieces n states))
+  numbers-held : numbersOf rows-held ≡ take (n * 256) (m .states)
+  numbers-held = rows-numbers n (m .states) (rows-parts .entries)
 
-  kept : Kept 2048 (rec .mappings) codes infos order
-  kept = store-form 2048 (rec .mappings) codes infos order (passed .store-ok)
+  steps-same : step ≡ stepsOn rows-held
+  steps-same = states-say lim n (m .states) (numbers .most-rows) (passed .states-ok)
+
+  kept : Kept (lim .mappings) (rec .mappings) (m .codes) (m .infos) (m .order)
+  kept = store-form (lim .mappings) (rec .mappings) (m .codes) (m .infos) (m .order) (passed .store-ok)
 
   es-is : es ≡ kept .es
-  es-is = held-is 2048 (rec .mappings) codes infos order kept
+  es-is = held-is (lim .mappings) (rec .mappings) (m .codes) (m .infos) (m .order) kept
 
   es-rising : Rising less es
-  es-rising = held-rising 2048 (rec .mappings) codes infos order kept
+  es-rising = held-rising (lim .mappings) (rec .mappings) (m .codes) (m .infos) (m .order) kept
 
   es-apart : AllApart es
-  es-apart = held-apart 2048 (rec .mappings) codes infos order kept
+  es-apart = held-apart (lim .mappings) (rec .mappings) (m .codes) (m .infos) (m .order) kept
 
   es-count : length es ≡ rec .mappings
   es-count = ap (λ (l : List Entry). length l) es-is ∙ kept .count
 
-  each : All (λ e. lineOk step rec e ≡ true) es
-  each = all-true (lineOk step rec) es (passed .lines-ok)
+  each : All (LineKept step rec) es
+  each = lines-kept lim rec m passed
 
   each-formed : All (λ e. entryOk e ≡ true) es
-  each-formed = all-map (λ e h. line-kept step rec e h .formed) es each
+  each-formed = all-map (λ e k. k .formed) es each
 
   back : map entryOf (map lineIn es) ≡ es
   back = lines-back es each-formed
@@ -322,13 +335,13 @@ module _ (rec : Record) (states codes infos order : List ℕ) (ok : valid limits
   each-good : All GoodLine (map lineIn es)
   each-good =
       map-all lineIn GoodLine es
-      (all-map (λ e (w : (lineOk step rec e ≡ true) × (e .bits < 4294967296)). let k = line-kept step rec e (w .0) in good-stored e (k .formed) (w .1) (k .keeps-6)) es
-      (all-both (λ e. lineOk step rec e ≡ true) (λ e. e .bits < 4294967296) es each
-      (entries-small (take (rec .mappings) codes) (take (rec .mappings) infos) (all-take (λ x. x < 4294967296) (rec .mappings) codes small))))
+      (all-map (λ e (w : LineKept step rec e × (e .bits < 4294967296)). good-stored e (w .0 .formed) (w .1) (w .0 .keeps-6)) es
+      (all-both (LineKept step rec) (λ e. e .bits < 4294967296) es each
+      (entries-small (take (rec .mappings) (m .codes)) (take (rec .mappings) (m .infos)) (all-take (λ x. x < 4294967296) (rec .mappings) (m .codes) small))))
 
   abbrev held-table : Table
   held-table = record {
-    rows = pieces n states;
+    rows = rows-held;
     lines = map lineIn es;
     min = rec .min;
     max = rec .max;
@@ -338,8 +351,7 @@ module _ (rec : Record) (states codes infos order : List ℕ) (ok : valid limits
 
   held-proper : Proper held-table
   held-proper = record {
-    rows-full = rows-full n states (omega (arith, rows-fit, rows-parts .long));
-    rows-known = subst (λ (l : List ℕ). allOf known l ≡ true) (sym (rows-flat n states)) (first-test known (λ e. leadsTo (t2Row n) (stepOf e)) (take (n * 256) states) (rows-parts .entries));
+    rows-full = rows-full n (map cellIn (m .states)) (omega (arith, length-map (m .states) cellIn, rows-fit, rows-parts .long));
     lines-proper = all-map (λ l g. g .proper) (map lineIn es) each-good;
     sub-bytes = unpacked-bytes (rec .subchar .len) (rec .subchar .bits) sub-small;
     sub1-byte = omega (arith, sub1-back (rec .subchar1), numbers .sub1-byte);
@@ -350,7 +362,7 @@ module _ (rec : Record) (states codes infos order : List ℕ) (ok : valid limits
   record-same =
       let sub : rec .subchar ≡ codeOf (bytesOf (rec .subchar)) = (λ i. record { bits = sym (pack-unpack (rec .subchar .len) (rec .subchar .bits) (numbers .sub-padded)) i; len = sym (length-unpacked (rec .subchar .len) (rec .subchar .bits)) i }) in
       (λ i. record {
-        rows = sym (rows-count n states) i;
+        rows = sym (rows-count n (map cellIn (m .states))) i;
         mappings = sym (length-map es lineIn ∙ es-count) i;
         min = rec .min;
         max = rec .max;
@@ -358,42 +370,42 @@ module _ (rec : Record) (states codes infos order : List ℕ) (ok : valid limits
         subchar1 = sym (sub1-back (rec .subchar1)) i;
       })
 
-  held-keeps : Keeps limits held-table
+  held-keeps : Keeps lim held-table
   held-keeps =
-      let rc = rows-count n states in
+      let rc = rows-count n (map cellIn (m .states)) in
       let lc = length-map es lineIn ∙ es-count in
       record {
-        rule1-rows = both (leb 1 (length (pieces n states))) _ (le-leb 1 (length (pieces n states)) (omega (arith, numbers .least-rows))) (le-leb (length (pieces n states)) 16 (omega (arith, numbers .most-rows)));
-        rule1-lines = le-leb (length (map lineIn es)) 2048 (omega (arith, numbers .few-lines));
-        rule1-sizes = both (leb 1 (rec .min)) _ (le-leb 1 (rec .min) (numbers .least-min)) (both (leb (rec .min) (rec .max)) _ (le-leb (rec .min) (rec .max) (numbers .min-max)) (le-leb (rec .max) 4 (numbers .most-max)));
-        rule2 = rw (rc, rows-flat n states) (second-test known (λ e. leadsTo (t2Row n) (stepOf e)) (take (n * 256) states) (rows-parts .entries));
+        rule1-rows = both (leb 1 (length rows-held)) _ (le-leb 1 (length rows-held) (omega (arith, numbers .least-rows))) (le-leb (length rows-held) (lim .rows) (omega (arith, numbers .most-rows)));
+        rule1-lines = le-leb (length (map lineIn es)) (lim .mappings) (omega (arith, numbers .few-lines));
+        rule1-sizes = numbers .sizes;
+        rule2 = ap (λ (k : ℕ). t2 k (flat rows-held)) rc ∙ sym (states-t2 n (flat rows-held)) ∙ ap (allOf (stateOk n)) numbers-held ∙ rows-parts .entries;
         rule3 = subst (λ (s : Rows). t3 s (rec .max) ≡ true) steps-same (passed .deep);
         rule4-sub = subst (λ (s : Rows). t4Sub s (bytesOf (rec .subchar)) ≡ true) steps-same (passed .sub);
         rule4-sub1 = subst (λ (s : Rows). t4Sub1 s (sub1In (rec .subchar1)) ≡ true) steps-same (passed .sub1);
-        rule5 = subst (λ (s : Rows). allOf (t5 s (rec .min) (rec .max)) (map lineIn es) ≡ true) steps-same (lines-map (lineOk step rec) (t5 step (rec .min) (rec .max)) es each (λ e h. line-kept step rec e h .keeps-5));
-        rule6 = lines-map (lineOk step rec) t6 es each (λ e h. line-kept step rec e h .keeps-6);
-        rule7 = lines-map (lineOk step rec) t7 es each (λ e h. line-kept step rec e h .keeps-7);
-        rule8 = lines-map (lineOk step rec) (t8 (sub1In (rec .subchar1))) es each (λ e h. line-kept step rec e h .keeps-8);
+        rule5 = subst (λ (s : Rows). allOf (t5 s (rec .min) (rec .max)) (map lineIn es) ≡ true) steps-same (lines-map (LineKept step rec) (t5 step (rec .min) (rec .max)) es each (λ e k. k .keeps-5));
+        rule6 = lines-map (LineKept step rec) t6 es each (λ e k. k .keeps-6);
+        rule7 = lines-map (LineKept step rec) t7 es each (λ e k. k .keeps-7);
+        rule8 = lines-map (LineKept step rec) (t8 (sub1In (rec .subchar1))) es each (λ e k. k .keeps-8);
         rule9 = apart-t9 (map lineIn es) each-good (subst AllApart (sym back) es-apart);
       }
 
-  held-form : Form limits held-table rec states codes infos order
+  held-form : Form lim held-table rec m
   held-form = record {
     record-is = record-same;
-    states-are = states-filled;
-    mappings-are = subst (λ (l : List Entry). Stored 2048 l codes infos order) (sym es-is ∙ sym sorted-is) (kept .stored);
+    states-are = states-filled lim n (m .states) (numbers .most-rows) (passed .states-ok);
+    mappings-are = subst (λ (l : List Entry). Stored (lim .mappings) l (m .codes) (m .infos) (m .order)) (sym es-is ∙ sym sorted-is) (kept .stored);
   }
 
-  pub valid-form : Held rec states codes infos order
+  pub valid-form : Held lim rec m
   valid-form = record { table = held-table; proper = held-proper; keeps = held-keeps; form = held-form }
 
   -- the same of the table that the definitions read from the memory, for the crates above
-  pub valid-table : Proper (tableIn rec states codes infos) × Keeps limits (tableIn rec states codes infos) × Form limits (tableIn rec states codes infos) rec states codes infos order
-  unfolding tableIn
+  pub valid-table : Proper (tableIn rec m) × Keeps lim (tableIn rec m) × Form lim (tableIn rec m) rec m
+  unfolding tableIn linesIn
   valid-table = (held-proper, held-keeps, held-form)
 
 -- from the form to the test
-code-length : (step : Rows) (c : List ℕ) → isCode step 0 c ≡ true → (endKind step 0 c ≡ 0 → ⊥) × (1 ≤ length c)
+pub code-length : (step : Rows) (c : List ℕ) → isCode step 0 c ≡ true → (endKind step 0 c ≡ 0 → ⊥) × (1 ≤ length c)
 unfolding endKind
 code-length step c h = (ends, long c ends)
   where
@@ -404,49 +416,46 @@ code-length step c h = (ends, long c ends)
     long [] q = absurd (q refl)
     long (b ∷ s) q = omega arith
 
-module _ (t : Table) (p : Proper t) (k : Keeps limits t) (rec : Record) (states codes infos order : List ℕ) (f : Form limits t rec states codes infos order) where
+module _ (lim : Limits) (t : Table) (p : Proper t) (k : Keeps lim t) (rec : Record) (lent : Slices) (f : Form lim t rec lent) where
   abbrev entriesOf : List ℕ
-  entriesOf = flat (t .rows)
+  entriesOf = numbersOf (t .rows)
 
-  rows-few : (1 ≤ length (t .rows)) × (length (t .rows) ≤ 16)
-  rows-few = (leb-true 1 (length (t .rows)) (both-left (leb 1 (length (t .rows))) _ (k .rule1-rows)), leb-true (length (t .rows)) 16 (both-right (leb 1 (length (t .rows))) _ (k .rule1-rows)))
+  rows-few : (1 ≤ length (t .rows)) × (length (t .rows) ≤ lim .rows)
+  rows-few = (leb-true 1 (length (t .rows)) (both-left (leb 1 (length (t .rows))) _ (k .rule1-rows)), leb-true (length (t .rows)) (lim .rows) (both-right (leb 1 (length (t .rows))) _ (k .rule1-rows)))
 
   flat-length : length entriesOf ≡ length (t .rows) * 256
-  flat-length = length-flat (t .rows) (p .rows-full)
+  flat-length = length-numbers (t .rows) (p .rows-full)
 
-  flat-fits : length (t .rows) * 256 ≤ 4096
+  flat-fits : length (t .rows) * 256 ≤ needed lim
   flat-fits = omega (arith, rows-few .1)
 
-  flat-taken : take (length (t .rows) * 256) states ≡ entriesOf
-  flat-taken = filled-take 4096 (length (t .rows) * 256) states entriesOf flat-length flat-fits (f .states-are)
+  flat-taken : take (length (t .rows) * 256) (lent .states) ≡ entriesOf
+  flat-taken = filled-take (needed lim) (length (t .rows) * 256) (lent .states) entriesOf flat-length flat-fits (f .states-are)
 
-  steps-are : stepAt (take 4096 states) ≡ stepsOf t
-  steps-are = ap stepAt (f .states-are) ∙ filled-steps 4096 entriesOf
-
-  sizes-few : t .max ≤ 4
-  sizes-few = leb-true (t .max) 4 (both-right (leb (t .min) (t .max)) _ (both-right (leb 1 (t .min)) _ (k .rule1-sizes)))
+  steps-are : stepAt (take (needed lim) (lent .states)) ≡ stepsOf t
+  steps-are = steps-filled (needed lim) (t .rows) (take (needed lim) (lent .states)) (f .states-are)
 
   pub sub-length : (1 ≤ length (t .subchar)) × (length (t .subchar) ≤ 4)
   sub-length =
       let c = code-length (stepsOf t) (t .subchar) (k .rule4-sub) in
-      (c .1, let h = short-code (stepsOf t) (t .max) 0 (t .subchar) (k .rule3) (p .sub-bytes) (c .0) in let m = sizes-few in omega arith)
+      (c .1, kept-short lim t k (t .subchar) (p .sub-bytes) (c .0))
 
-  record-passes : recordOk limits (recordOf t) ≡ true
+  record-passes : recordOk lim (recordOf t) ≡ true
   unfolding recordOk recordOf
   record-passes =
-      both (t1Rows limits (length (t .rows))) _ (k .rule1-rows)
-      (both (t1Lines limits (length (t .lines))) _ (k .rule1-lines)
+      both (t1Rows lim (length (t .rows))) _ (k .rule1-rows)
+      (both (t1Lines lim (length (t .lines))) _ (k .rule1-lines)
       (both (t1Sizes (t .min) (t .max)) _ (k .rule1-sizes)
       (both (padded (length (t .subchar)) (packed (t .subchar))) _ (packed-padded (t .subchar) (p .sub-bytes) (sub-length .0) (sub-length .1))
       (le-leb (sub1Of (t .subchar1)) 256 (let h = p .sub1-byte in omega arith)))))
 
-  states-pass : statesOk limits (length (t .rows)) states ≡ true
+  states-pass : statesOk lim (length (t .rows)) (lent .states) ≡ true
   unfolding statesOk
   states-pass =
-      both (leb 4096 (length states)) _ (le-leb 4096 (length states) (filled-long 4096 states entriesOf (omega (arith, flat-length, flat-fits)) (f .states-are)))
-      (both (allOf (stateOk (length (t .rows))) (take (length (t .rows) * 256) states)) _
-      (subst (λ (l : List ℕ). allOf (stateOk (length (t .rows))) l ≡ true) (sym flat-taken) (both-tests known (λ e. leadsTo (t2Row (length (t .rows))) (stepOf e)) entriesOf (p .rows-known) (k .rule2)))
-      (filled-zeros 4096 (length (t .rows) * 256) states entriesOf flat-length (f .states-are)))
+      both (leb (needed lim) (length (lent .states))) _ (le-leb (needed lim) (length (lent .states)) (filled-long (needed lim) (lent .states) entriesOf (omega (arith, flat-length, flat-fits)) (f .states-are)))
+      (both (allOf (stateOk (length (t .rows))) (take (length (t .rows) * 256) (lent .states))) _
+      (subst (λ (l : List ℕ). allOf (stateOk (length (t .rows))) l ≡ true) (sym flat-taken) (states-t2 (length (t .rows)) (flat (t .rows)) ∙ k .rule2))
+      (filled-zeros (needed lim) (length (t .rows) * 256) (lent .states) entriesOf flat-length (f .states-are)))
 
   line-passes : (l : Line) → GoodLine l → t5 (stepsOf t) (t .min) (t .max) l ≡ true → t7 l ≡ true → t8 (t .subchar1) l ≡ true → lineOk (stepsOf t) (recordOf t) (entryOf l) ≡ true
   unfolding recordOf
@@ -462,7 +471,7 @@ module _ (t : Table) (p : Proper t) (k : Keeps limits t) (rec : Record) (states 
 
   lines-pass : allOf (lineOk (stepsOf t) (recordOf t)) (sorted (t .lines)) ≡ true
   lines-pass =
-      let good = keeps-good limits t p k in
+      let good = keeps-good lim t p k in
       true-all (lineOk (stepsOf t) (recordOf t)) (sorted (t .lines))
       (sort-all less (λ e. lineOk (stepsOf t) (recordOf t) e ≡ true) (map entryOf (t .lines))
       (map-all entryOf (λ e. lineOk (stepsOf t) (recordOf t) e ≡ true) (t .lines)
@@ -487,20 +496,20 @@ module _ (t : Table) (p : Proper t) (k : Keeps limits t) (rec : Record) (states 
   unfolding recordOf
   max-number = refl
 
-  pub form-valid : valid limits rec states codes infos order ≡ true
+  pub form-valid : valid lim rec lent ≡ true
   form-valid =
       let r = f .record-is in
       let s = sym steps-are in
-      untested rec states codes infos order (record {
-        rec-ok = subst (λ (x : Record). recordOk limits x ≡ true) (sym r) record-passes;
-        states-ok = subst (λ (x : Record). statesOk limits (x .rows) states ≡ true) (sym r) (subst (λ (m : ℕ). statesOk limits m states ≡ true) (sym rows-number) states-pass);
-        deep = subst (λ (x : Record). t3 (stepAt (take 4096 states)) (x .max) ≡ true) (sym r) (subst (λ (m : ℕ). t3 (stepAt (take 4096 states)) m ≡ true) (sym max-number) (subst (λ (x : Rows). t3 x (t .max) ≡ true) s (k .rule3)));
-        sub = subst (λ (x : Record). t4Sub (stepAt (take 4096 states)) (bytesOf (x .subchar)) ≡ true) (sym r) (subst (λ (x : Rows). t4Sub x (bytesOf (recordOf t .subchar)) ≡ true) s sub-passes);
-        sub1 = subst (λ (x : Record). t4Sub1 (stepAt (take 4096 states)) (sub1In (x .subchar1)) ≡ true) (sym r) (subst (λ (x : Rows). t4Sub1 x (sub1In (recordOf t .subchar1)) ≡ true) s sub1-passes);
-        store-ok = form-store 2048 (rec .mappings) codes infos order (form-kept t p k rec states codes infos order f);
+      untested lim rec lent (record {
+        rec-ok = subst (λ (x : Record). recordOk lim x ≡ true) (sym r) record-passes;
+        states-ok = subst (λ (x : Record). statesOk lim (x .rows) (lent .states) ≡ true) (sym r) (subst (λ (m : ℕ). statesOk lim m (lent .states) ≡ true) (sym rows-number) states-pass);
+        deep = subst (λ (x : Record). t3 (stepAt (take (needed lim) (lent .states))) (x .max) ≡ true) (sym r) (subst (λ (m : ℕ). t3 (stepAt (take (needed lim) (lent .states))) m ≡ true) (sym max-number) (subst (λ (x : Rows). t3 x (t .max) ≡ true) s (k .rule3)));
+        sub = subst (λ (x : Record). t4Sub (stepAt (take (needed lim) (lent .states))) (bytesOf (x .subchar)) ≡ true) (sym r) (subst (λ (x : Rows). t4Sub x (bytesOf (recordOf t .subchar)) ≡ true) s sub-passes);
+        sub1 = subst (λ (x : Record). t4Sub1 (stepAt (take (needed lim) (lent .states))) (sub1In (x .subchar1)) ≡ true) (sym r) (subst (λ (x : Rows). t4Sub1 x (sub1In (recordOf t .subchar1)) ≡ true) s sub1-passes);
+        store-ok = form-store (lim .mappings) (rec .mappings) (lent .codes) (lent .infos) (lent .order) (form-kept lim t p k rec lent f);
         lines-ok =
-            subst (λ (l : List Entry). allOf (lineOk (stepAt (take 4096 states)) rec) l ≡ true) (sym (form-held t p k rec states codes infos order f))
-            (subst (λ (x : Record). allOf (lineOk (stepAt (take 4096 states)) x) (sorted (t .lines)) ≡ true) (sym r)
+            subst (λ (l : List Entry). allOf (lineOk (stepAt (take (needed lim) (lent .states))) rec) l ≡ true) (sym (form-held lim t p k rec lent f))
+            (subst (λ (x : Record). allOf (lineOk (stepAt (take (needed lim) (lent .states))) x) (sorted (t .lines)) ≡ true) (sym r)
             (subst (λ (x : Rows). allOf (lineOk x (recordOf t)) (sorted (t .lines)) ≡ true) s lines-pass));
       })
 
@@ -515,12 +524,27 @@ pub record SameTable (t u : Table) : Type 0 where
   pub back : (l : Line) → In l (u .lines) → In l (t .lines)
 
 -- the same record, and the same numbers in all needed places
-pub record SameMemory (rec rec′ : Record) (states codes infos order states′ codes′ infos′ order′ : List ℕ) : Type 0 where
+pub record SameMemory (lim : Limits) (rec rec′ : Record) (m m′ : Slices) : Type 0 where
   pub same-record : rec ≡ rec′
-  pub same-states : take (needed limits) states ≡ take (needed limits) states′
-  pub same-codes : take (limits .mappings) codes ≡ take (limits .mappings) codes′
-  pub same-infos : take (limits .mappings) infos ≡ take (limits .mappings) infos′
-  pub same-order : take (limits .mappings) order ≡ take (limits .mappings) order′
+  pub same-states : take (needed lim) (m .states) ≡ take (needed lim) (m′ .states)
+  pub same-codes : take (lim .mappings) (m .codes) ≡ take (lim .mappings) (m′ .codes)
+  pub same-infos : take (lim .mappings) (m .infos) ≡ take (lim .mappings) (m′ .infos)
+  pub same-order : take (lim .mappings) (m .order) ≡ take (lim .mappings) (m′ .order)
+
+-- a form asks of the needed places alone
+form-moved : (lim : Limits) (t : Table) (rec rec′ : Record) (m m′ : Slices)
+    → SameMemory lim rec rec′ m m′ → Form lim t rec′ m′
+    → Form lim t rec m
+form-moved lim t rec rec′ m m′ s f = record {
+  record-is = s .same-record ∙ f .record-is;
+  states-are = s .same-states ∙ f .states-are;
+  mappings-are = record {
+    fits = f .mappings-are .fits;
+    codes-are = s .same-codes ∙ f .mappings-are .codes-are;
+    infos-are = s .same-infos ∙ f .mappings-are .infos-are;
+    order-is = s .same-order ∙ f .mappings-are .order-is;
+  };
+}
 
 -- lines that are stored alike
 moved : (ls ms : List Line) → All GoodLine ls → All GoodLine ms → sorted ls ≡ sorted ms → (l : Line) → In l ls → In l ms
@@ -531,11 +555,11 @@ moved ls ms gs hs e l i =
     subst (λ (x : Line). In x ms) (sym same) (r .1 .0)
 
 -- one form for one meaning
-module _ (t u : Table) (p : Proper t) (q : Proper u) (k : Keeps limits t) (m : Keeps limits u) where
+module _ (lim : Limits) (t u : Table) (p : Proper t) (q : Proper u) (k : Keeps lim t) (m : Keeps lim u) where
   pub sorted-one : SameTable t u → sorted (t .lines) ≡ sorted (u .lines)
   sorted-one s =
       one-sorted (map entryOf (t .lines)) (map entryOf (u .lines))
-      (t9-apart (t .lines) (keeps-good limits t p k) (k .rule9)) (t9-apart (u .lines) (keeps-good limits u q m) (m .rule9))
+      (t9-apart (t .lines) (keeps-good lim t p k) (k .rule9)) (t9-apart (u .lines) (keeps-good lim u q m) (m .rule9))
       (λ e i. let r = in-map entryOf e (t .lines) i in subst (λ (x : Entry). In x (map entryOf (u .lines))) (sym (r .1 .1)) (map-in entryOf (r .0) (u .lines) (s .there (r .0) (r .1 .0))))
       (λ e i. let r = in-map entryOf e (u .lines) i in subst (λ (x : Entry). In x (map entryOf (t .lines))) (sym (r .1 .1)) (map-in entryOf (r .0) (t .lines) (s .back (r .0) (r .1 .0))))
 
@@ -556,21 +580,26 @@ module _ (t u : Table) (p : Proper t) (q : Proper u) (k : Keeps limits t) (m : K
       })
 
   -- two memories in these forms agree in all needed places
-  module _ (s : SameTable t u) (rec rec′ : Record) (states codes infos order states′ codes′ infos′ order′ : List ℕ)
-      (f : Form limits t rec states codes infos order) (g : Form limits u rec′ states′ codes′ infos′ order′) where
-    pub one-form : SameMemory rec rec′ states codes infos order states′ codes′ infos′ order′
+  module _ (s : SameTable t u) (rec rec′ : Record) (lent lent′ : Slices)
+      (f : Form lim t rec lent) (g : Form lim u rec′ lent′) where
+    pub one-form : SameMemory lim rec rec′ lent lent′
     one-form =
         let e = sorted-one s in
         record {
           same-record = f .record-is ∙ record-one s ∙ sym (g .record-is);
-          same-states = f .states-are ∙ ap (λ (r : List (List ℕ)). filled (needed limits) (flat r)) (s .same-rows) ∙ sym (g .states-are);
-          same-codes = f .mappings-are .codes-are ∙ ap (λ (l : List Entry). filled (limits .mappings) (map bitsOf l)) e ∙ sym (g .mappings-are .codes-are);
-          same-infos = f .mappings-are .infos-are ∙ ap (λ (l : List Entry). filled (limits .mappings) (map infoOf l)) e ∙ sym (g .mappings-are .infos-are);
-          same-order = f .mappings-are .order-is ∙ ap (λ (l : List Entry). filled (limits .mappings) (orderOf l)) e ∙ sym (g .mappings-are .order-is);
+          same-states = f .states-are ∙ ap (λ (r : List (List Cell)). filled (needed lim) (numbersOf r)) (s .same-rows) ∙ sym (g .states-are);
+          same-codes = f .mappings-are .codes-are ∙ ap (λ (l : List Entry). filled (lim .mappings) (map bitsOf l)) e ∙ sym (g .mappings-are .codes-are);
+          same-infos = f .mappings-are .infos-are ∙ ap (λ (l : List Entry). filled (lim .mappings) (map infoOf l)) e ∙ sym (g .mappings-are .infos-are);
+          same-order = f .mappings-are .order-is ∙ ap (λ (l : List Entry). filled (lim .mappings) (orderOf l)) e ∙ sym (g .mappings-are .order-is);
         }
 
-  -- and one meaning for one form
-  module _ (rec : Record) (states codes infos order : List ℕ) (f : Form limits t rec states codes infos order) (g : Form limits u rec states codes infos order) where
+  -- and one meaning for one form: what lies past the needed places does not matter
+  module _ (rec rec′ : Record) (lent lent′ : Slices)
+      (same : SameMemory lim rec rec′ lent lent′)
+      (f : Form lim t rec lent) (h : Form lim u rec′ lent′) where
+    g : Form lim u rec lent
+    g = form-moved lim u rec rec′ lent lent′ same h
+
     records-one : recordOf t ≡ recordOf u
     records-one = sym (f .record-is) ∙ g .record-is
 
@@ -579,13 +608,14 @@ module _ (t u : Table) (p : Proper t) (q : Proper u) (k : Keeps limits t) (m : K
     rows-one =
         let n : length (t .rows) ≡ length (u .rows) = ap (λ (r : Record). r .rows) records-one in
         flat-one (t .rows) (u .rows) (p .rows-full) (q .rows-full) n
-        (sym (flat-taken t p k rec states codes infos order f) ∙ ap (λ (x : ℕ). take (x * 256) states) n ∙ flat-taken u q m rec states codes infos order g)
+        (numbers-one (flat (t .rows)) (flat (u .rows))
+        (sym (flat-taken lim t p k rec lent f) ∙ ap (λ (x : ℕ). take (x * 256) (lent .states)) n ∙ flat-taken lim u q m rec lent g))
 
     sub-one : t .subchar ≡ u .subchar
     unfolding recordOf
     sub-one =
         pack-one-way (t .subchar) (u .subchar) (p .sub-bytes) (q .sub-bytes) (ap (λ (r : Record). r .subchar .len) records-one)
-        (sub-length t p k rec states codes infos order f .1) (ap (λ (r : Record). r .subchar .bits) records-one)
+        (sub-length lim t p k rec lent f .1) (ap (λ (r : Record). r .subchar .bits) records-one)
 
     sub1-one : t .subchar1 ≡ u .subchar1
     unfolding recordOf
@@ -600,7 +630,7 @@ module _ (t u : Table) (p : Proper t) (q : Proper u) (k : Keeps limits t) (m : K
     max-one = ap (λ (r : Record). r .max) records-one
 
     stored-one : sorted (t .lines) ≡ sorted (u .lines)
-    stored-one = sym (form-held t p k rec states codes infos order f) ∙ form-held u q m rec states codes infos order g
+    stored-one = sym (form-held lim t p k rec lent f) ∙ form-held lim u q m rec lent g
 
     pub forms-apart : SameTable t u
     forms-apart = record {
@@ -609,6 +639,6 @@ module _ (t u : Table) (p : Proper t) (q : Proper u) (k : Keeps limits t) (m : K
       same-max = max-one;
       same-subchar = sub-one;
       same-subchar1 = sub1-one;
-      there = λ l i. moved (t .lines) (u .lines) (keeps-good limits t p k) (keeps-good limits u q m) stored-one l i;
-      back = λ l i. moved (u .lines) (t .lines) (keeps-good limits u q m) (keeps-good limits t p k) (sym stored-one) l i;
+      there = λ l i. moved (t .lines) (u .lines) (keeps-good lim t p k) (keeps-good lim u q m) stored-one l i;
+      back = λ l i. moved (u .lines) (t .lines) (keeps-good lim u q m) (keeps-good lim t p k) (sym stored-one) l i;
     }

@@ -1,5 +1,7 @@
 -- A mapping as it is stored: two numbers. `bits` holds the code's bytes, first byte on top, unused places zero;
--- `info` is code point + 2^21 * rank + 2^24 * (length - 1). The rank puts lines that are read first: |0, |3, |1, |2.
+-- `info` is code point + 2^21 * rank + 2^24 * (length - 1).
+-- The rank is 0 for `|0`, 1 for `|3`, 2 for `|1`, 4 for `|2`: of one code the lines that are read come first, then those that only
+-- write. 3 is free, for `|4`.
 use Prim.Native.Nat.{ℕ, _+_, _-_, _*_, _/_, _%_}
 use mathlib.Core.Bool.{Bool, true, false}
 use mathlib.Core.Path.{_≡_}
@@ -35,7 +37,7 @@ abbrev pub extraIn : ℕ → ℕ
 extraIn i = i / 16777216
 
 abbrev pub rankOf : ℕ → ℕ
-rankOf indicator = pick (eqb indicator 0) 0 (pick (eqb indicator 3) 1 (pick (eqb indicator 1) 2 3))
+rankOf indicator = pick (eqb indicator 0) 0 (pick (eqb indicator 3) 1 (pick (eqb indicator 1) 2 4))
 
 abbrev pub indicatorIn : ℕ → ℕ
 indicatorIn rank = pick (eqb rank 0) 0 (pick (eqb rank 1) 3 (pick (eqb rank 2) 1 2))
@@ -60,13 +62,19 @@ padded len bits =
     (pick (eqb len 3) (eqb (bits % 256) 0)
     (eqb len 4)))
 
--- the two numbers are those of a line: a rank of 0 to 3, a code of 1 to 4 bytes
-unfoldable pub entryOk : Entry → Bool
-entryOk e = pick (leb (rankIn (e .info)) 3) (padded (extraIn (e .info) + 1) (e .bits)) false
+-- the rank of a line: 0, 1, 2 or 4
+abbrev pub isRank : ℕ → Bool
+isRank rank = pick (leb rank 2) true (eqb rank 4)
 
+-- the two numbers are those of a line: its rank, a code of 1 to 4 bytes
+unfoldable pub entryOk : Entry → Bool
+entryOk e = pick (isRank (rankIn (e .info))) (padded (extraIn (e .info) + 1) (e .bits)) false
+
+-- ranks 0 and 1 are read
 abbrev pub readsEntry : Entry → Bool
 readsEntry e = leb (rankIn (e .info)) 1
 
+-- of the ranks that lines have, 1 alone (`|3`) is not written
 abbrev pub writesEntry : Entry → Bool
 writesEntry e = pick (eqb (rankIn (e .info)) 1) false true
 

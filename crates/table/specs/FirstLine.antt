@@ -7,19 +7,12 @@ use mathlib.Core.List.{List, [], _∷_, _++_}
 use lib.ListN.{length}
 use Rattle.lists.specs.Order.{All, In}
 use Rattle.table.specs.Limits.{Limits}
-use Rattle.table.specs.Meaning.{Line, Table}
-use Rattle.table.specs.Header.{lineOf}
-use Rattle.table.specs.Mapping.{Form, noForm, reserved, blank, ending, mapping, mappedOf, lastOf}
-use Rattle.table.specs.Numbers.{Cond, cond, numberOf, keyConditions, charmapConditions, mappingConditions}
-use Rattle.table.specs.Load.{Reading, Step, went, stop, Judge, lineAs, stepOf, tableOf, start}
-use Rattle.table.specs.declared.header.Head.{Head}
-use Rattle.table.specs.declared.header.Line.{Line as HeaderLine}
-use Rattle.table.specs.declared.header.Line.the-variants as header
+use Rattle.table.specs.Meaning.{Table}
+use Rattle.table.specs.Numbers.{Cond, cond, numberOf}
+use Rattle.table.specs.Load.{Reading, lineAsks, tableOf, start}
 use Rattle.table.specs.declared.load.Refusal.{Refusal}
 use Rattle.table.specs.declared.load.Refusal.the-variants as refusal
-use Rattle.table.specs.declared.load.Verdict.the-variants.{Fine}
-use Rattle.table.specs.declared.load.Phase.{Phase}
-use Rattle.table.specs.declared.load.Phase.the-variants.{Header, Mappings, Ended}
+use Rattle.table.specs.declared.load.Phase.the-variants.{Ended}
 
 -- none of these conditions holds
 abbrev pub NoneHolds : List Cond → Type 0
@@ -30,51 +23,13 @@ pub record HoldsLowest (x : Refusal) (cs : List Cond) : Type 0 where
   pub holds : In (cond x true) cs
   pub least : All (λ c. c .holds ≡ true → numberOf x ≤ numberOf (c .refusal)) cs
 
--- the conditions at a line before CHARMAP: 10 at a line of no form, none at a blank one
-abbrev pub headerConditions : Limits → Head → List (List ℕ) → HeaderLine → List Cond
-headerConditions lim h rows header.NoForm = cond refusal.NoForm true ∷ []
-headerConditions lim h rows header.Blank = []
-headerConditions lim h rows header.Charmap = charmapConditions h rows
-headerConditions lim h rows (header.Known k v q e) = keyConditions lim h k v
-
--- at a line between CHARMAP and END CHARMAP: 10 at a line of no form, 14 at one that is reserved
-abbrev pub mappedConditions : Limits → Head → List (List ℕ) → List Line → Form → List Cond
-mappedConditions lim h rows ls noForm = cond refusal.NoForm true ∷ []
-mappedConditions lim h rows ls reserved = cond refusal.NotBuilt true ∷ []
-mappedConditions lim h rows ls blank = []
-mappedConditions lim h rows ls ending = []
-mappedConditions lim h rows ls (mapping u c d) = mappingConditions lim h rows ls (lineAs u c d)
-
--- at a line behind END CHARMAP, where only blank lines may stand
-abbrev pub lastConditions : Form → List Cond
-lastConditions noForm = cond refusal.NoForm true ∷ []
-lastConditions reserved = cond refusal.NotBuilt true ∷ []
-lastConditions blank = []
-lastConditions ending = cond refusal.NoForm true ∷ []
-lastConditions (mapping u c d) = cond refusal.NoForm true ∷ []
-
--- by the part of the text that the line stands in
-abbrev pub phaseConditions : Limits → Phase → Head → List (List ℕ) → List Line → List ℕ → List Cond
-phaseConditions lim Header h rows ls s = headerConditions lim h rows (lineOf s)
-phaseConditions lim Mappings h rows ls s = mappedConditions lim h rows ls (mappedOf s)
-phaseConditions lim Ended h rows ls s = lastConditions (lastOf s)
-
 -- the conditions at a line, given what was read before it
 abbrev pub conditionsAt : Limits → Reading → List ℕ → List Cond
-conditionsAt lim r s = phaseConditions lim (r .phase) (r .head) (r .rows) (r .lines) s
+conditionsAt lim r s = lineAsks lim r s .conditions
 
--- to ask no condition: every line is fine
-abbrev pub unasked : Judge
-unasked cs = Fine
-
--- what a step has read; a refused line leaves what was read before it
-abbrev pub readIn : Reading → Step → Reading
-readIn r (went q) = q
-readIn r (stop x) = r
-
--- what is read behind a line, and behind several lines, with no condition asked
+-- what is read behind a line, and behind several lines, where no condition holds
 abbrev pub behind : Limits → Reading → List ℕ → Reading
-behind lim r s = readIn r (stepOf unasked lim r s)
+behind lim r s = lineAsks lim r s .behind
 
 unfoldable pub behindAll : Limits → Reading → List (List ℕ) → Reading
 behindAll lim r [] = r

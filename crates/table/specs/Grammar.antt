@@ -14,6 +14,7 @@ use lib.ListN.{length}
 use Rattle.lists.specs.Pick.{pick}
 use Rattle.lists.specs.Order.{All, In}
 use Rattle.lists.specs.Ascii.{ascii}
+use Rattle.table.specs.Cells.{Cell, illegal}
 use Rattle.table.specs.Meaning.{Line, Table, same}
 use Rattle.table.specs.Row.{meaning, rowOf}
 use Rattle.table.specs.declared.header.Column.{Column}
@@ -263,14 +264,14 @@ abbrev pub Names : Column → ℕ → Type 0
 Names e b = (e .lo ≤ b) × (b ≤ e .hi)
 
 -- v is what entries say of the byte b: the last one that names it decides (`meaning`); if none does, it is w
-abbrev pub SaysElse : ℕ → List Column → ℕ → ℕ → Type 0
+abbrev pub SaysElse : Cell → List Column → ℕ → Cell → Type 0
 SaysElse w es b v =
     (All (λ e. Names e b → ⊥) es × (v ≡ w))
     ⊎ ((before : List Column) × (e : Column) × (after : List Column) × (es ≡ before ++ (e ∷ after)) × Names e b × All (λ x. Names x b → ⊥) after × (v ≡ meaning e))
 
--- a byte not named is illegal (0)
-abbrev pub RowSays : List Column → ℕ → ℕ → Type 0
-RowSays es b v = SaysElse 0 es b v
+-- a byte not named is illegal
+abbrev pub RowSays : List Column → ℕ → Cell → Type 0
+RowSays es b v = SaysElse illegal es b v
 
 -- 14 of an entry: letter `s`, or an end with a next row other than 0
 abbrev pub LaterEntry : Column → Type 0
@@ -315,7 +316,7 @@ abbrev pub everyByte : Column
 everyByte = record { lo = 0; hi = 255; next = 256; kind = 0 }
 
 -- the rows of a table, by its class: those of the state lines; SBCS without any has one row `0-ff`
-abbrev pub RowsAre : List ℕ → List (List Column) → List (List ℕ) → Type 0
+abbrev pub RowsAre : List ℕ → List (List Column) → List (List Cell) → Type 0
 RowsAre class ess rows =
     ((1 ≤ length ess) × (rows ≡ map rowOf ess)) ⊎ ((ess ≡ []) × (class ≡ ascii "SBCS") × (rows ≡ rowOf (everyByte ∷ []) ∷ []))
 

@@ -120,18 +120,23 @@ valueOf State v = rowIn v
 valueOf Base v = Later
 valueOf Other v = Any
 
+-- a value by what the conditions ask of it: one that is unfit, one under 14, any other, or a row: the word that opens it, whether 14 or 15
+-- is given for an entry
+abbrev pub byValue : {A : Type 0} → A → A → A → (ℕ → Bool → Bool → A) → Value → A
+byValue unfit later other row Unfit = unfit
+byValue unfit later other row Any = other
+byValue unfit later other row Later = later
+byValue unfit later other row Name = other
+byValue unfit later other row (Min d) = other
+byValue unfit later other row (Max d) = other
+byValue unfit later other row (Class c) = other
+byValue unfit later other row (Sub b n) = other
+byValue unfit later other row (Sub1 b) = other
+byValue unfit later other row (Row w l o) = row w l o
+
 -- a value that is a row
 unfoldable pub isRow : Value → Bool
-isRow Unfit = false
-isRow Any = false
-isRow Later = false
-isRow Name = false
-isRow (Min d) = false
-isRow (Max d) = false
-isRow (Class c) = false
-isRow (Sub b n) = false
-isRow (Sub1 b) = false
-isRow (Row w l o) = true
+isRow v = byValue false false false (λ w l o. true) v
 
 -- a key's line: the value runs from q to e
 unfoldable pub keyLine : List ℕ → Key → ℕ → Place → Line

@@ -1,13 +1,17 @@
 pub mod Limits
+pub mod Cells
 pub mod States
 pub mod Codes
 pub mod Meaning
 pub mod Rules
 pub mod Entry
+pub mod Slices
 pub mod Memory
+pub mod Keys
 pub mod Search
 pub mod Common
 pub mod Valid
+pub mod Lookup
 pub mod Text
 pub mod Row
 pub mod Header

@@ -1,24 +1,27 @@
 -- Loading a text: line after line, the answer, and what it leaves in the lent memory.
 use Prim.Native.Nat.{ℕ, _+_, _-_}
-use mathlib.Core.Bool.{Bool, true, false}
+use mathlib.Core.Bool.{Bool, true}
+use mathlib.Core.Option.{some}
 use mathlib.Core.List.{List, [], _∷_, _++_, map}
 use lib.ListN.{length, take, drop, replicate}
 use lib.Dec.{ltb}
 use Rattle.lists.specs.Pick.{pick}
-use Rattle.table.specs.Limits.{Limits, limits, needed}
-use Rattle.table.specs.Codes.{bytesOf}
-use Rattle.table.specs.Meaning.{Line, Table, flat}
+use Rattle.table.specs.Limits.{Limits, needed}
+use Rattle.table.specs.Cells.{Cell}
+use Rattle.table.specs.Codes.{unpacked}
+use Rattle.table.specs.Meaning.{Line, Table}
 use Rattle.table.specs.Entry.{bitsOf, infoOf}
-use Rattle.table.specs.Memory.{sub1In, sorted, orderOf, filled, recordOf}
+use Rattle.table.specs.Slices.{Slices}
+use Rattle.table.specs.Memory.{sorted, orderOf, filled, recordOf, numbersOf}
+use Rattle.table.specs.Keys.{Keys, noKeys, classBy, minOf, maxOf, subcharOf}
 use Rattle.table.specs.Text.{linesOf}
 use Rattle.table.specs.Row.{columnsOf, rowOf}
-use Rattle.table.specs.Header.{lineOf}
+use Rattle.table.specs.Header.{isRow, lineOf}
 use Rattle.table.specs.Mapping.{Form, noForm, reserved, blank, ending, mapping, mappedOf, lastOf}
-use Rattle.table.specs.Numbers.{Cond, lowest, inForm, keyConditions, charmapConditions, mappingConditions, rowsAt}
+use Rattle.table.specs.Numbers.{Cond, cond, numberOf, lowest, inForm, keyConditions, charmapConditions, mappingConditions, rowsAt}
 use Rattle.table.specs.declared.valid.Record.{Record}
 use Rattle.table.specs.declared.header.Value.{Value}
 use Rattle.table.specs.declared.header.Value.the-variants.{Unfit, Any, Name, Min, Max, Class, Sub, Sub1, Row, Later}
-use Rattle.table.specs.declared.header.Head.{Head}
 use Rattle.table.specs.declared.header.Line.{Line as HeaderLine}
 use Rattle.table.specs.declared.header.Line.the-variants as header
 use Rattle.table.specs.declared.load.Refusal.{Refusal}
@@ -33,8 +36,8 @@ use Rattle.table.specs.declared.load.Loaded.{Loaded}
 -- what the lines so far have given; lines stand with the last one first
 pub record Reading : Type 0 where
   pub phase : Phase
-  pub head : Head
-  pub rows : List (List ℕ)
+  pub head : Keys
+  pub rows : List (List Cell)
   pub lines : List Line
 
 -- a line's outcome: the reading goes on, or the text is refused
@@ -46,80 +49,86 @@ abbrev pub judged : Verdict → Reading → Step
 judged Fine r = went r
 judged (Refuse x) r = stop x
 
--- the header with a line's value in it
-unfoldable pub keep : Head → Value → Head
+-- the keys with a line's value in them
+unfoldable pub keep : Keys → Value → Keys
 keep h Unfit = h
 keep h Any = h
 keep h Later = h
-keep h Name = record { name = true; min = h .min; max = h .max; class = h .class; sub = h .sub; sub1 = h .sub1; rows = h .rows }
-keep h (Min d) = record { name = h .name; min = d; max = h .max; class = h .class; sub = h .sub; sub1 = h .sub1; rows = h .rows }
-keep h (Max d) = record { name = h .name; min = h .min; max = d; class = h .class; sub = h .sub; sub1 = h .sub1; rows = h .rows }
-keep h (Class c) = record { name = h .name; min = h .min; max = h .max; class = c; sub = h .sub; sub1 = h .sub1; rows = h .rows }
-keep h (Sub b n) = record { name = h .name; min = h .min; max = h .max; class = h .class; sub = record { bits = b; len = n }; sub1 = h .sub1; rows = h .rows }
-keep h (Sub1 b) = record { name = h .name; min = h .min; max = h .max; class = h .class; sub = h .sub; sub1 = 1 + b; rows = h .rows }
-keep h (Row w l o) = record { name = h .name; min = h .min; max = h .max; class = h .class; sub = h .sub; sub1 = h .sub1; rows = h .rows + 1 }
+keep h Name = record { name = true; min = h .min; max = h .max; class = h .class; subchar = h .subchar; subchar1 = h .subchar1 }
+keep h (Min d) = record { name = h .name; min = some d; max = h .max; class = h .class; subchar = h .subchar; subchar1 = h .subchar1 }
+keep h (Max d) = record { name = h .name; min = h .min; max = some d; class = h .class; subchar = h .subchar; subchar1 = h .subchar1 }
+keep h (Class c) = record { name = h .name; min = h .min; max = h .max; class = some (classBy c); subchar = h .subchar; subchar1 = h .subchar1 }
+keep h (Sub b n) = record { name = h .name; min = h .min; max = h .max; class = h .class; subchar = some (unpacked n b); subchar1 = h .subchar1 }
+keep h (Sub1 b) = record { name = h .name; min = h .min; max = h .max; class = h .class; subchar = h .subchar; subchar1 = some b }
+keep h (Row w l o) = h
 
--- the rows with a line's row behind them; v is the value's text
-unfoldable pub keepRow : Value → List ℕ → List (List ℕ) → List (List ℕ)
-keepRow Unfit v rows = rows
-keepRow Any v rows = rows
-keepRow Later v rows = rows
-keepRow Name v rows = rows
-keepRow (Min d) v rows = rows
-keepRow (Max d) v rows = rows
-keepRow (Class c) v rows = rows
-keepRow (Sub b n) v rows = rows
-keepRow (Sub1 b) v rows = rows
-keepRow (Row w l o) v rows = rows ++ (rowOf (columnsOf v) ∷ [])
+-- the rows with a line's row behind them; s is the value's text
+unfoldable pub keepRow : Value → List ℕ → List (List Cell) → List (List Cell)
+keepRow v s rows = pick (isRow v) (rows ++ (rowOf (columnsOf s) ∷ [])) rows
 
-abbrev pub reading : Phase → Head → List (List ℕ) → List Line → Reading
+abbrev pub reading : Phase → Keys → List (List Cell) → List Line → Reading
 reading p h rows ls = record { phase = p; head = h; rows = rows; lines = ls }
 
--- the header with the row that SBCS has without any
-abbrev pub headAt : Head → List (List ℕ) → Head
-headAt h rows = record { name = h .name; min = h .min; max = h .max; class = h .class; sub = h .sub; sub1 = h .sub1; rows = length rows }
+-- what a line asks: its conditions, and what is read behind it where none holds
+pub record Asks : Type 0 where
+  pub conditions : List Cond
+  pub behind : Reading
+
+abbrev pub asks : List Cond → Reading → Asks
+asks cs r = record { conditions = cs; behind = r }
+
+-- a line that is refused whatever came before it: nothing is read
+abbrev pub refuses : Refusal → Reading → Asks
+refuses x r = asks (cond x true ∷ []) r
+
+-- a line before CHARMAP: 10 at a line of no form
+abbrev pub headerAsks : Limits → Keys → List (List Cell) → List ℕ → HeaderLine → Asks
+headerAsks lim h rows s header.NoForm = refuses refusal.NoForm (reading Header h rows [])
+headerAsks lim h rows s header.Blank = asks [] (reading Header h rows [])
+headerAsks lim h rows s header.Charmap = asks (charmapConditions h rows) (reading Mappings h (rowsAt h rows) [])
+headerAsks lim h rows s (header.Known k v q e) =
+    asks (keyConditions lim h (length rows) k v) (reading Header (keep h v) (keepRow v (take (e - q) (drop q s)) rows) [])
+
+abbrev pub lineAs : ℕ → List ℕ → ℕ → Line
+lineAs u c d = record { point = u; code = c; indicator = d }
+
+-- a line between CHARMAP and END CHARMAP: 10 at a line of no form, 14 at one that is reserved
+abbrev pub mappingAsks : Limits → Keys → List (List Cell) → List Line → Form → Asks
+mappingAsks lim h rows ls noForm = refuses refusal.NoForm (reading Mappings h rows ls)
+mappingAsks lim h rows ls reserved = refuses refusal.NotBuilt (reading Mappings h rows ls)
+mappingAsks lim h rows ls blank = asks [] (reading Mappings h rows ls)
+mappingAsks lim h rows ls ending = asks [] (reading Ended h rows ls)
+mappingAsks lim h rows ls (mapping u c d) =
+    asks (mappingConditions lim h rows ls (lineAs u c d)) (reading Mappings h rows (lineAs u c d ∷ ls))
+
+-- a line behind END CHARMAP, where only blank lines may stand
+abbrev pub lastAsks : Keys → List (List Cell) → List Line → Form → Asks
+lastAsks h rows ls noForm = refuses refusal.NoForm (reading Ended h rows ls)
+lastAsks h rows ls reserved = refuses refusal.NotBuilt (reading Ended h rows ls)
+lastAsks h rows ls blank = asks [] (reading Ended h rows ls)
+lastAsks h rows ls ending = refuses refusal.NoForm (reading Ended h rows ls)
+lastAsks h rows ls (mapping u c d) = refuses refusal.NoForm (reading Ended h rows ls)
+
+-- by the part of the text that the line stands in
+abbrev pub phaseAsks : Limits → Phase → Keys → List (List Cell) → List Line → List ℕ → Asks
+phaseAsks lim Header h rows ls s = headerAsks lim h rows s (lineOf s)
+phaseAsks lim Mappings h rows ls s = mappingAsks lim h rows ls (mappedOf s)
+phaseAsks lim Ended h rows ls s = lastAsks h rows ls (lastOf s)
+
+-- a line, given what was read before it
+abbrev pub lineAsks : Limits → Reading → List ℕ → Asks
+lineAsks lim r s = phaseAsks lim (r .phase) (r .head) (r .rows) (r .lines) s
 
 -- how the conditions at a line are judged: all of them, or those of the grammar alone
 abbrev pub Judge : Type 0
 Judge = List Cond → Verdict
 
--- a line before CHARMAP
-unfoldable pub headerStep : Judge → Limits → Head → List (List ℕ) → List ℕ → HeaderLine → Step
-headerStep judge lim h rows s header.NoForm = stop refusal.NoForm
-headerStep judge lim h rows s header.Blank = went (reading Header h rows [])
-headerStep judge lim h rows s header.Charmap =
-    judged (judge (charmapConditions h rows)) (reading Mappings (headAt h (rowsAt h rows)) (rowsAt h rows) [])
-headerStep judge lim h rows s (header.Known k v q e) =
-    judged (judge (keyConditions lim h k v)) (reading Header (keep h v) (keepRow v (take (e - q) (drop q s)) rows) [])
-
-abbrev pub lineAs : ℕ → List ℕ → ℕ → Line
-lineAs u c d = record { point = u; code = c; indicator = d }
-
--- a line between CHARMAP and END CHARMAP
-unfoldable pub mappingStep : Judge → Limits → Head → List (List ℕ) → List Line → Form → Step
-mappingStep judge lim h rows ls noForm = stop refusal.NoForm
-mappingStep judge lim h rows ls reserved = stop refusal.NotBuilt
-mappingStep judge lim h rows ls blank = went (reading Mappings h rows ls)
-mappingStep judge lim h rows ls ending = went (reading Ended h rows ls)
-mappingStep judge lim h rows ls (mapping u c d) =
-    judged (judge (mappingConditions lim h rows ls (lineAs u c d))) (reading Mappings h rows (lineAs u c d ∷ ls))
-
--- a line behind END CHARMAP
-unfoldable pub lastStep : Head → List (List ℕ) → List Line → Form → Step
-lastStep h rows ls noForm = stop refusal.NoForm
-lastStep h rows ls reserved = stop refusal.NotBuilt
-lastStep h rows ls blank = went (reading Ended h rows ls)
-lastStep h rows ls ending = stop refusal.NoForm
-lastStep h rows ls (mapping u c d) = stop refusal.NoForm
-
-unfoldable pub phaseStep : Judge → Limits → Phase → Head → List (List ℕ) → List Line → List ℕ → Step
-phaseStep judge lim Header h rows ls s = headerStep judge lim h rows s (lineOf s)
-phaseStep judge lim Mappings h rows ls s = mappingStep judge lim h rows ls (mappedOf s)
-phaseStep judge lim Ended h rows ls s = lastStep h rows ls (lastOf s)
+abbrev pub judgedBy : Judge → Asks → Step
+judgedBy judge a = judged (judge (a .conditions)) (a .behind)
 
 -- one line
 abbrev pub stepOf : Judge → Limits → Reading → List ℕ → Step
-stepOf judge lim r s = phaseStep judge lim (r .phase) (r .head) (r .rows) (r .lines) s
+stepOf judge lim r s = judgedBy judge (lineAsks lim r s)
 
 -- the meaning of what was read
 unfoldable pub tableOf : Reading → Table
@@ -127,10 +136,10 @@ tableOf r =
     record {
       rows = r .rows;
       lines = r .lines;
-      min = r .head .min;
-      max = r .head .max;
-      subchar = bytesOf (r .head .sub);
-      subchar1 = sub1In (r .head .sub1);
+      min = minOf (r .head);
+      max = maxOf (r .head);
+      subchar = subcharOf (r .head);
+      subchar1 = r .head .subchar1;
     }
 
 pub data Outcome : Type 0 where
@@ -150,11 +159,8 @@ loadGo judge lim k [] (went r) = outcomeAt k r (r .phase)
 loadGo judge lim k (l ∷ ls) (stop x) = refused x k
 loadGo judge lim k (l ∷ ls) (went r) = loadGo judge lim (k + 1) ls (stepOf judge lim r l)
 
-abbrev pub emptyHead : Head
-emptyHead = record { name = false; min = 0; max = 0; class = 0; sub = record { bits = 0; len = 0 }; sub1 = 0; rows = 0 }
-
 abbrev pub start : Reading
-start = reading Header emptyHead [] []
+start = reading Header noKeys [] []
 
 -- the text by itself
 unfoldable pub loadOf : Limits → List ℕ → Outcome
@@ -176,15 +182,21 @@ abbrev pub loadedAs : Outcome → Loaded
 loadedAs (accepted t) = record { answer = Accepted; line = 0; table = recordOf t }
 loadedAs (refused x k) = record { answer = Refused x; line = k; table = zeroRecord }
 
--- what a text and lent memory of these lengths give: the outcome, and whether the memory is looked at
+-- what loading a text into lent slices gives: the outcome, and whether the slices are looked at
 pub data Given : Type 0 where
   untouched : Refusal → Given
   read : Outcome → Given
 
-unfoldable pub givenBy : Limits → List ℕ → ℕ → ℕ → ℕ → ℕ → Given
-givenBy lim text s c i o =
-    pick (Small lim s c i o) (untouched refusal.MemoryTooSmall)
+unfoldable pub given : Limits → List ℕ → Slices → Given
+given lim text m =
+    pick (Small lim (length (m .states)) (length (m .codes)) (length (m .infos)) (length (m .order))) (untouched refusal.MemoryTooSmall)
     (pick (ltb (lim .text) (length text)) (untouched refusal.TextTooLong) (read (loadOf lim text)))
+
+-- document 01's number for it: 0 for an accepted text, else the refusal's
+abbrev pub givenNumber : Given → ℕ
+givenNumber (untouched x) = numberOf x
+givenNumber (read (accepted t)) = 0
+givenNumber (read (refused x k)) = numberOf x
 
 abbrev pub loadedBy : Given → Loaded
 loadedBy (untouched x) = loadedAs (refused x 0)
@@ -197,7 +209,7 @@ leftBy n numbers (read (refused x k)) old = replicate n 0 ++ drop n old
 leftBy n numbers (read (accepted t)) old = filled n (numbers t) ++ drop n old
 
 abbrev pub statesOf : Table → List ℕ
-statesOf t = flat (t .rows)
+statesOf t = numbersOf (t .rows)
 
 abbrev pub codesOf : Table → List ℕ
 codesOf t = map bitsOf (sorted (t .lines))
@@ -208,22 +220,12 @@ infosOf t = map infoOf (sorted (t .lines))
 abbrev pub orderedOf : Table → List ℕ
 orderedOf t = orderOf (sorted (t .lines))
 
--- the four lent slices
-pub record Slices : Type 0 where
-  pub states : List ℕ
-  pub codes : List ℕ
-  pub infos : List ℕ
-  pub order : List ℕ
-
--- what loading a text into lent slices gives, and what it leaves in them: the words of the load's own promise
-abbrev pub given : List ℕ → Slices → Given
-given text old = givenBy limits text (length (old .states)) (length (old .codes)) (length (old .infos)) (length (old .order))
-
-abbrev pub leftIn : Given → Slices → Slices
-leftIn g old =
+-- what loading leaves in lent slices: the words of the load's own promise
+abbrev pub leftIn : Limits → Given → Slices → Slices
+leftIn lim g old =
     record {
-      states = leftBy (needed limits) statesOf g (old .states);
-      codes = leftBy (limits .mappings) codesOf g (old .codes);
-      infos = leftBy (limits .mappings) infosOf g (old .infos);
-      order = leftBy (limits .mappings) orderedOf g (old .order);
+      states = leftBy (needed lim) statesOf g (old .states);
+      codes = leftBy (lim .mappings) codesOf g (old .codes);
+      infos = leftBy (lim .mappings) infosOf g (old .infos);
+      order = leftBy (lim .mappings) orderedOf g (old .order);
     }

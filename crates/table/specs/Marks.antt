@@ -1,23 +1,19 @@
 -- Which rows can still end a code, and the next complete code found by passing over those that cannot.
-use Prim.Native.Nat.{ℕ, zero, suc, _+_, _*_, _/_, _%_, _<_}
+use Prim.Native.Nat.{ℕ, zero, suc, _+_, _*_, _/_, _%_}
 use mathlib.Core.Path.{_≡_}
-use mathlib.Core.List.{List, [], _∷_}
+use mathlib.Core.List.{List, [], _∷_, map}
 use mathlib.Core.Bool.{Bool, true, false, not}
 use lib.Dec.{ltb, eqb}
 use lib.ListN.{getD}
 use Rattle.lists.specs.Pick.{pick}
+use Rattle.lists.specs.Order.{upFrom}
 use Rattle.table.specs.Limits.{limits}
-use Rattle.table.specs.States.{Rows, longest}
+use Rattle.table.specs.States.{Rows, longest, someBelow}
 use Rattle.table.specs.Codes.{scan, after, firstCode}
 use Rattle.table.specs.declared.states.Step.{Step}
 use Rattle.table.specs.declared.states.Step.the-variants.{Illegal, Ends, Leads}
 use Rattle.table.specs.declared.states.Code.{Code}
 use Rattle.table.specs.declared.codes.Next.{Next}
-
--- f holds of some number below n
-unfoldable pub someBelow : (ℕ → Bool) → ℕ → Bool
-someBelow f zero = false
-someBelow f (suc n) = pick (someBelow f n) true (f n)
 
 -- a code ends here, or goes on in a row of which w holds
 abbrev pub endsOrLeads : (ℕ → Bool) → Step → Bool
@@ -39,8 +35,8 @@ abbrev pub markAt : Rows → ℕ → ℕ
 markAt step k = pick (alive step (k % longest) (k / longest)) 1 0
 
 -- the marks of all rows that a table can have
-abbrev pub MarksOf : Rows → List ℕ → Type 0
-MarksOf step marks = (k : ℕ) → k < limits .rows * longest → getD marks k 0 ≡ markAt step k
+unfoldable pub marksOf : Rows → List ℕ
+marksOf step = map (markAt step) (upFrom 0 (limits .rows * longest))
 
 -- whether a row is marked with `left` bytes to come; past the end of the marks it is not
 unfoldable pub isMarked : List ℕ → ℕ → ℕ → Bool

@@ -1,12 +1,14 @@
 -- What an accepted text means: rows, lines and the numbers of its header, with no word of memory.
-use Prim.Native.Nat.{ℕ}
+use Prim.Native.Nat.{ℕ, _+_, _*_}
 use mathlib.Core.Bool.{Bool, true, false}
 use mathlib.Core.Option.{Option}
 use mathlib.Core.List.{List, [], _∷_, _++_}
+use lib.ListN.{getD}
 use lib.Dec.{eqb}
 use Rattle.lists.specs.Pick.{pick}
 use Rattle.lists.specs.Order.{firstOf}
-use Rattle.table.specs.States.{Rows, stepAt}
+use Rattle.table.specs.Cells.{Cell, illegal, cellStep}
+use Rattle.table.specs.States.{Rows}
 
 -- a mapping line: code point, bytes, and the indicator's digit (0 both ways, 1 only from Unicode, 2 not mappable, 3 only to Unicode)
 pub record Line : Type 0 where
@@ -14,9 +16,9 @@ pub record Line : Type 0 where
   pub code : List ℕ
   pub indicator : ℕ
 
--- a row has 256 entries; lines stand with the text's last one first (their order means nothing)
+-- a row has 256 cells; lines stand with the text's last one first (their order means nothing)
 pub record Table : Type 0 where
-  pub rows : List (List ℕ)
+  pub rows : List (List Cell)
   pub lines : List Line
   pub min : ℕ
   pub max : ℕ
@@ -24,12 +26,16 @@ pub record Table : Type 0 where
   pub subchar1 : Option ℕ
 
 -- rows one behind the other
-unfoldable pub flat : List (List ℕ) → List ℕ
+unfoldable pub flat : List (List Cell) → List Cell
 flat [] = []
 flat (r ∷ rs) = r ++ flat rs
 
+-- what the cell of a row at a byte says; past the last row all is illegal
+unfoldable pub stepsOn : List (List Cell) → Rows
+stepsOn rows row b = cellStep (getD (flat rows) (row * 256 + b) illegal)
+
 abbrev pub stepsOf : Table → Rows
-stepsOf t = stepAt (flat (t .rows))
+stepsOf t = stepsOn (t .rows)
 
 -- the same bytes
 unfoldable pub same : List ℕ → List ℕ → Bool
@@ -38,13 +44,29 @@ same [] (b ∷ t) = false
 same (a ∷ s) [] = false
 same (a ∷ s) (b ∷ t) = let r = same s t in pick (eqb a b) r false
 
--- lines of `|0` and `|3` are read towards Unicode
+-- ## Lines by name: each test lists the digits that it means, and no other digit passes it
+
+-- `|0`, `|3`: its code is read towards Unicode
 abbrev pub isRead : Line → Bool
 isRead l = pick (eqb (l .indicator) 0) true (eqb (l .indicator) 3)
 
--- lines of `|0`, `|1` and `|2` say what becomes of a code point
+-- `|0`, `|1`, `|2`: it says what becomes of its code point
 abbrev pub isWritten : Line → Bool
-isWritten l = pick (eqb (l .indicator) 3) false true
+isWritten l = pick (eqb (l .indicator) 0) true (pick (eqb (l .indicator) 1) true (eqb (l .indicator) 2))
+
+-- `|0`, `|1`, `|3`: it maps between its code point and a code
+abbrev pub hasCode : Line → Bool
+hasCode l = pick (eqb (l .indicator) 0) true (pick (eqb (l .indicator) 1) true (eqb (l .indicator) 3))
+
+-- `|0`, `|1`: its code is written for its code point
+abbrev pub writesCode : Line → Bool
+writesCode l = pick (eqb (l .indicator) 0) true (eqb (l .indicator) 1)
+
+-- `|2`: its code point is substituted by subchar1
+abbrev pub isSubstituted : Line → Bool
+isSubstituted l = eqb (l .indicator) 2
+
+-- ## Look-up among lines
 
 -- the line that reads a code
 abbrev pub reader : List ℕ → List Line → Option Line

@@ -1,18 +1,19 @@
 -- The form: the record and the lent numbers of a table. One form for one meaning.
 use Prim.Native.Nat.{ℕ, zero, suc, _+_, _-_, _≤_, _<_}
-use mathlib.Core.Bool.{Bool, true}
+use mathlib.Core.Bool.{Bool}
 use mathlib.Core.Path.{_≡_}
 use mathlib.Core.Option.{Option, none, some}
 use mathlib.Core.List.{List, [], _∷_, _++_, map}
-use lib.Dec.{leb, eqb}
+use lib.Dec.{eqb}
 use lib.ListN.{length, take, drop, getD, replicate}
 use Rattle.lists.specs.Pick.{pick}
 use Rattle.lists.specs.Order.{sort, upFrom, All}
 use Rattle.table.specs.Limits.{Limits, needed}
+use Rattle.table.specs.Cells.{Cell, cellNumber, cellIn}
 use Rattle.table.specs.Codes.{codeOf, bytesOf, AllByte}
 use Rattle.table.specs.Meaning.{Line, Table, flat}
-use Rattle.table.specs.Rules.{allOf}
 use Rattle.table.specs.Entry.{Entry, mk, bitsOf, infoOf, entryOf, lineIn, less, pointLess}
+use Rattle.table.specs.Slices.{Slices}
 use Rattle.table.specs.declared.valid.Record.{Record}
 
 -- the entry at an index of the two slices
@@ -69,42 +70,45 @@ pub record Stored (limit : ℕ) (es : List Entry) (codes infos order : List ℕ)
   pub infos-are : take limit infos ≡ filled limit (map infoOf es)
   pub order-is : take limit order ≡ filled limit (orderOf es)
 
--- THE FORM of a table; what lies past the needed places is anything
-pub record Form (lim : Limits) (t : Table) (rec : Record) (states codes infos order : List ℕ) : Type 0 where
-  pub record-is : rec ≡ recordOf t
-  pub states-are : take (needed lim) states ≡ filled (needed lim) (flat (t .rows))
-  pub mappings-are : Stored (lim .mappings) (sorted (t .lines)) codes infos order
+-- the numbers of the rows' cells, row by row
+abbrev pub numbersOf : List (List Cell) → List ℕ
+numbersOf rows = map cellNumber (flat rows)
 
--- n rows of 256 entries from the front of a list
-unfoldable pub pieces : ℕ → List ℕ → List (List ℕ)
+-- THE FORM of a table; what lies past the needed places is anything
+pub record Form (lim : Limits) (t : Table) (rec : Record) (m : Slices) : Type 0 where
+  pub record-is : rec ≡ recordOf t
+  pub states-are : take (needed lim) (m .states) ≡ filled (needed lim) (numbersOf (t .rows))
+  pub mappings-are : Stored (lim .mappings) (sorted (t .lines)) (m .codes) (m .infos) (m .order)
+
+-- n rows of 256 cells from the front of a list
+unfoldable pub pieces : ℕ → List Cell → List (List Cell)
 pieces zero l = []
 pieces (suc n) l = take 256 l ∷ pieces n (drop 256 l)
 
--- the table that a record and memory hold, whatever they are
-unfoldable pub tableIn : Record → List ℕ → List ℕ → List ℕ → Table
-tableIn rec states codes infos =
+-- the lines that a record and memory hold, whatever they are
+unfoldable pub linesIn : Record → List ℕ → List ℕ → List Line
+linesIn rec codes infos = map lineIn (entries (take (rec .mappings) codes) (take (rec .mappings) infos))
+
+-- the table that they hold
+unfoldable pub tableIn : Record → Slices → Table
+tableIn rec m =
     record {
-      rows = pieces (rec .rows) states;
-      lines = map lineIn (entries (take (rec .mappings) codes) (take (rec .mappings) infos));
+      rows = pieces (rec .rows) (map cellIn (m .states));
+      lines = linesIn rec (m .codes) (m .infos);
       min = rec .min;
       max = rec .max;
       subchar = bytesOf (rec .subchar);
       subchar1 = sub1In (rec .subchar1);
     }
 
--- an entry of a row is 0 to 3 or leads on
-abbrev pub known : ℕ → Bool
-known e = pick (leb e 3) true (leb 16 e)
-
 -- a line as a text can give it
 pub record ProperLine (l : Line) : Type 0 where
   pub bytes : AllByte (l .code)
   pub digit : l .indicator < 4
 
--- a table as a text can give it: rows of 256 entries, bytes that are bytes, digits that are indicators
+-- a table as a text can give it: rows of 256 cells, bytes that are bytes, digits that are indicators
 pub record Proper (t : Table) : Type 0 where
   pub rows-full : All (λ r. length r ≡ 256) (t .rows)
-  pub rows-known : allOf known (flat (t .rows)) ≡ true
   pub lines-proper : All ProperLine (t .lines)
   pub sub-bytes : AllByte (t .subchar)
   pub sub1-byte : sub1Of (t .subchar1) < 257

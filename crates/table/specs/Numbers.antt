@@ -6,16 +6,14 @@ use lib.ListN.{length, replicate}
 use lib.Dec.{ltb, leb, eqb}
 use Rattle.lists.specs.Pick.{pick}
 use Rattle.table.specs.Limits.{Limits}
-use Rattle.table.specs.States.{stepAt}
-use Rattle.table.specs.Codes.{bytesOf}
-use Rattle.table.specs.Meaning.{Line, flat}
+use Rattle.table.specs.Cells.{Cell, ends}
+use Rattle.table.specs.Meaning.{Line, flat, stepsOn}
 use Rattle.table.specs.Rules.{anyOf, t2, t3, t4Sub, t4Sub1, t5, t6, t7, t8, sharesBytes, sharesPoint}
-use Rattle.table.specs.Memory.{sub1In}
+use Rattle.table.specs.Keys.{Keys, isSome, isSbcs, minOf, maxOf, subcharOf}
+use Rattle.table.specs.Header.{byValue}
 use Rattle.table.specs.declared.header.Key.{Key}
 use Rattle.table.specs.declared.header.Key.the-variants.{CodeSetName, CurMin, CurMax, ConvClass, SubChar, SubChar1, State, Base, Other}
 use Rattle.table.specs.declared.header.Value.{Value}
-use Rattle.table.specs.declared.header.Value.the-variants.{Unfit, Any, Name, Min, Max, Class, Sub, Sub1, Row, Later}
-use Rattle.table.specs.declared.header.Head.{Head}
 use Rattle.table.specs.declared.load.Refusal.{Refusal}
 use Rattle.table.specs.declared.load.Refusal.the-variants as refusal
 use Rattle.table.specs.declared.load.Answer.{Answer}
@@ -49,39 +47,30 @@ answerNumber Accepted = 0
 answerNumber (Refused x) = numberOf x
 
 -- 11: once-only key again
-unfoldable pub n11 : Head → Key → Bool
+unfoldable pub n11 : Keys → Key → Bool
 n11 h CodeSetName = h .name
-n11 h CurMin = ltb 0 (h .min)
-n11 h CurMax = ltb 0 (h .max)
-n11 h ConvClass = ltb 0 (h .class)
-n11 h SubChar = ltb 0 (h .sub .len)
-n11 h SubChar1 = ltb 0 (h .sub1)
+n11 h CurMin = isSome (h .min)
+n11 h CurMax = isSome (h .max)
+n11 h ConvClass = isSome (h .class)
+n11 h SubChar = isSome (h .subchar)
+n11 h SubChar1 = isSome (h .subchar1)
 n11 h State = false
 n11 h Base = false
 n11 h Other = false
 
 -- 12: known key, value not as it must be; forms that 14 or 15 is given for are let through
 unfoldable pub n12 : Value → Bool
-n12 Unfit = true
-n12 Any = false
-n12 Later = false
-n12 Name = false
-n12 (Min d) = false
-n12 (Max d) = false
-n12 (Class c) = false
-n12 (Sub b n) = false
-n12 (Sub1 b) = false
-n12 (Row w l o) = false
+n12 v = byValue true false false (λ w l o. false) v
 
--- 13, at CHARMAP: a required key or row absent; SBCS may be without rows
-unfoldable pub n13 : Head → Bool
-n13 h =
+-- 13, at CHARMAP behind so many rows: a required key or row absent; SBCS may be without rows
+unfoldable pub n13 : Keys → ℕ → Bool
+n13 h rows =
     pick (h .name)
-    (pick (ltb 0 (h .min))
-    (pick (ltb 0 (h .max))
-    (pick (ltb 0 (h .class))
-    (pick (ltb 0 (h .sub .len))
-    (pick (eqb (h .class) 1) false (eqb (h .rows) 0)) true) true) true) true) true
+    (pick (isSome (h .min))
+    (pick (isSome (h .max))
+    (pick (isSome (h .class))
+    (pick (isSome (h .subchar))
+    (pick (isSbcs (h .class)) false (eqb rows 0)) true) true) true) true) true
 
 -- 14 of a row: `surrogates`, `initial` off row 0, or an entry with letter `s` or an end with a next row other than 0
 unfoldable pub rowLater : ℕ → ℕ → Bool → Bool
@@ -89,58 +78,40 @@ rowLater rows w l = pick l true (pick (eqb w 2) true (pick (eqb w 1) (ltb 0 rows
 
 -- 14 of a header line: class DBCS or EBCDIC_STATEFUL, icu:base, or such a row
 unfoldable pub n14 : ℕ → Value → Bool
-n14 rows Unfit = false
-n14 rows Any = false
-n14 rows Later = true
-n14 rows Name = false
-n14 rows (Min d) = false
-n14 rows (Max d) = false
-n14 rows (Class c) = false
-n14 rows (Sub b n) = false
-n14 rows (Sub1 b) = false
-n14 rows (Row w l o) = rowLater rows w l
+n14 rows v = byValue false true false (λ w l o. rowLater rows w l) v
 
 -- 15 of a row: an entry with a falling range or a next row over 7f, or one row more than the limit
 unfoldable pub rowOver : Limits → ℕ → Bool → Bool
 rowOver lim rows o = pick o true (leb (lim .rows) rows)
 
 unfoldable pub n15 : Limits → ℕ → Value → Bool
-n15 lim rows Unfit = false
-n15 lim rows Any = false
-n15 lim rows Later = false
-n15 lim rows Name = false
-n15 lim rows (Min d) = false
-n15 lim rows (Max d) = false
-n15 lim rows (Class c) = false
-n15 lim rows (Sub b n) = false
-n15 lim rows (Sub1 b) = false
-n15 lim rows (Row w l o) = rowOver lim rows o
+n15 lim rows v = byValue false false false (λ w l o. rowOver lim rows o) v
 
 -- the rows at CHARMAP: SBCS without any has one row `0-ff`
-unfoldable pub rowsAt : Head → List (List ℕ) → List (List ℕ)
-rowsAt h rows = pick (eqb (h .class) 1) (pick (eqb (h .rows) 0) (replicate 256 1 ∷ []) rows) rows
+unfoldable pub rowsAt : Keys → List (List Cell) → List (List Cell)
+rowsAt h rows = pick (isSbcs (h .class)) (pick (eqb (length rows) 0) (replicate 256 ends ∷ []) rows) rows
 
 -- 16, at CHARMAP: T2, T3, T4 or the order of mb_cur_min and mb_cur_max broken
-unfoldable pub n16 : Head → List (List ℕ) → Bool
+unfoldable pub n16 : Keys → List (List Cell) → Bool
 n16 h rows =
-    pick (leb (h .min) (h .max))
+    pick (leb (minOf h) (maxOf h))
     (pick (t2 (length rows) (flat rows))
-    (pick (t3 (stepAt (flat rows)) (h .max))
-    (pick (t4Sub (stepAt (flat rows)) (bytesOf (h .sub)))
-    (pick (t4Sub1 (stepAt (flat rows)) (sub1In (h .sub1))) false true) true) true) true) true
+    (pick (t3 (stepsOn rows) (maxOf h))
+    (pick (t4Sub (stepsOn rows) (subcharOf h))
+    (pick (t4Sub1 (stepsOn rows) (h .subchar1)) false true) true) true) true) true
 
 -- 20, 21, 22, 23: the mapping breaks T6, T5, T7, T8. What came before it: the header, its rows, the lines with the last one first
 unfoldable pub n20 : Line → Bool
 n20 l = not (t6 l)
 
-unfoldable pub n21 : Head → List (List ℕ) → Line → Bool
-n21 h rows l = not (t5 (stepAt (flat rows)) (h .min) (h .max) l)
+unfoldable pub n21 : Keys → List (List Cell) → Line → Bool
+n21 h rows l = not (t5 (stepsOn rows) (minOf h) (maxOf h) l)
 
 unfoldable pub n22 : Line → Bool
 n22 l = not (t7 l)
 
-unfoldable pub n23 : Head → Line → Bool
-n23 h l = not (t8 (sub1In (h .sub1)) l)
+unfoldable pub n23 : Keys → Line → Bool
+n23 h l = not (t8 (h .subchar1) l)
 
 -- 24, 25: T9 with an earlier line, bytes and code point
 unfoldable pub n24 : List Line → Line → Bool
@@ -175,24 +146,24 @@ unfoldable pub inForm : List Cond → Verdict
 inForm [] = Fine
 inForm (c ∷ cs) = let r = inForm cs in pick (isRule (c .refusal)) r (pick (c .holds) (Refuse (c .refusal)) r)
 
--- a header line
-unfoldable pub keyConditions : Limits → Head → Key → Value → List Cond
-keyConditions lim h k v =
+-- a header line behind so many rows
+unfoldable pub keyConditions : Limits → Keys → ℕ → Key → Value → List Cond
+keyConditions lim h rows k v =
     cond refusal.KeyAgain (n11 h k)
     ∷ cond refusal.UnfitValue (n12 v)
-    ∷ cond refusal.NotBuilt (n14 (h .rows) v)
-    ∷ cond refusal.OutOfRange (n15 lim (h .rows) v)
+    ∷ cond refusal.NotBuilt (n14 rows v)
+    ∷ cond refusal.OutOfRange (n15 lim rows v)
     ∷ []
 
 -- the line CHARMAP
-unfoldable pub charmapConditions : Head → List (List ℕ) → List Cond
+unfoldable pub charmapConditions : Keys → List (List Cell) → List Cond
 charmapConditions h rows =
-    cond refusal.KeyAbsent (n13 h)
+    cond refusal.KeyAbsent (n13 h (length rows))
     ∷ cond refusal.StatesBroken (n16 h (rowsAt h rows))
     ∷ []
 
 -- a mapping line
-unfoldable pub mappingConditions : Limits → Head → List (List ℕ) → List Line → Line → List Cond
+unfoldable pub mappingConditions : Limits → Keys → List (List Cell) → List Line → Line → List Cond
 mappingConditions lim h rows ls l =
     cond refusal.NoScalar (n20 l)
     ∷ cond refusal.NoSuchCode (n21 h rows l)

@@ -6,6 +6,7 @@ use mathlib.Core.Bool.{Bool, true, false}
 use lib.ListN.{length, take, drop, replicate}
 use lib.Dec.{ltb, leb, eqb}
 use Rattle.lists.specs.Pick.{pick}
+use Rattle.table.specs.Cells.{Cell, illegal, ends, endsAny, endsUnassigned, leads}
 use Rattle.table.specs.Text.{byteOf, skipAt, begins, numberAt}
 use Rattle.table.specs.declared.text.Num.{Num}
 use Rattle.table.specs.declared.text.Num.the-variants.{Val, Bad}
@@ -100,22 +101,22 @@ laterColumn e =
 unfoldable pub overColumn : Column → Bool
 overColumn e = pick (ltb (e .hi) (e .lo)) true (pick (eqb (e .next) 256) false (ltb 127 (e .next)))
 
--- what an entry says of its bytes: 0 illegal, 1 ends, 2 `p`, 3 `u`, 16 + n leads on to row n
-unfoldable pub meaning : Column → ℕ
+-- what an entry says of its bytes
+unfoldable pub meaning : Column → Cell
 meaning e =
-    pick (eqb (e .kind) 0) (pick (eqb (e .next) 256) 1 (16 + e .next))
-    (pick (eqb (e .kind) 1) 1
-    (pick (eqb (e .kind) 2) 2
-    (pick (eqb (e .kind) 3) 3 0)))
+    pick (eqb (e .kind) 0) (pick (eqb (e .next) 256) ends (leads (e .next)))
+    (pick (eqb (e .kind) 1) ends
+    (pick (eqb (e .kind) 2) endsAny
+    (pick (eqb (e .kind) 3) endsUnassigned illegal)))
 
 -- v in the places from..to
-unfoldable pub spread : ℕ → ℕ → ℕ → List ℕ → List ℕ
+unfoldable pub spread : {A : Type 0} → ℕ → ℕ → A → List A → List A
 spread from to v l = take from l ++ (replicate (to + 1 - from) v ++ drop (from + (to + 1 - from)) l)
 
--- later entries overwrite earlier
-unfoldable pub painted : List Column → List ℕ → List ℕ
-painted [] row = row
-painted (e ∷ es) row = painted es (spread (e .lo) (e .hi) (meaning e) row)
+-- later entries overwrite earlier; value gives what an entry puts into its places
+unfoldable pub painted : {A : Type 0} → (Column → A) → List Column → List A → List A
+painted value [] row = row
+painted value (e ∷ es) row = painted value es (spread (e .lo) (e .hi) (value e) row)
 
 -- the word that may open a row (1 `initial`, 2 `surrogates`, 0 none) and where the entries begin
 unfoldable pub commaAt : List ℕ → ℕ → ℕ → Num
@@ -135,10 +136,10 @@ columnsFrom s (Val k q) = columnsAt s q
 unfoldable pub columnsOf : List ℕ → List Column
 columnsOf s = pick (leb (length s) (skipAt s 0)) [] (columnsFrom s (openAt s (skipAt s 0)))
 
--- the 256 numbers of a row: bytes not named are illegal
-unfoldable pub rowOf : List Column → List ℕ
-rowOf es = painted es (replicate 256 0)
+-- the 256 cells of a row: bytes not named are illegal
+unfoldable pub rowOf : List Column → List Cell
+rowOf es = painted meaning es (replicate 256 illegal)
 
--- one row of 256 put in its place among the states
+-- 256 numbers put in the place of row r among the states
 unfoldable pub putRow : ℕ → List ℕ → List ℕ → List ℕ
 putRow r row l = take (r * 256) l ++ (row ++ drop (r * 256 + 256) l)

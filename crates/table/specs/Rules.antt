@@ -8,8 +8,9 @@ use lib.ListN.{length, getD}
 use lib.Dec.{ltb, leb, eqb}
 use Rattle.lists.specs.Pick.{pick}
 use Rattle.table.specs.Limits.{Limits}
-use Rattle.table.specs.States.{Rows, stepOf, endKind, isCode, within, leadsTo}
-use Rattle.table.specs.Meaning.{Line, Table, flat, stepsOf, same, isRead, isWritten}
+use Rattle.table.specs.States.{Rows, endKind, isCode, within, leadsTo}
+use Rattle.table.specs.Meaning.{Line, Table, flat, stepsOf, same, isRead, isWritten, hasCode, writesCode, isSubstituted}
+use Rattle.table.specs.Cells.{Cell, cellStep}
 
 -- f holds of every element
 unfoldable pub allOf : {A : Type 0} → (A → Bool) → List A → Bool
@@ -21,7 +22,7 @@ unfoldable pub anyOf : {A : Type 0} → (A → Bool) → List A → Bool
 anyOf f [] = false
 anyOf f (x ∷ l) = let r = anyOf f l in pick (f x) true r
 
--- T1: 1 to 16 rows, 0 to 2,048 mappings, mb_cur_min no larger than mb_cur_max, both 1 to 4
+-- T1: at least one row, no more rows and mappings than the limits, mb_cur_min no larger than mb_cur_max, both 1 to 4
 abbrev pub t1Rows : Limits → ℕ → Bool
 t1Rows lim n = pick (leb 1 n) (leb n (lim .rows)) false
 
@@ -35,8 +36,8 @@ t1Sizes min max = pick (leb 1 min) (pick (leb min max) (leb max 4) false) false
 abbrev pub t2Row : ℕ → ℕ → Bool
 t2Row n m = pick (leb 1 m) (ltb m n) false
 
-abbrev pub t2 : ℕ → List ℕ → Bool
-t2 n entries = allOf (λ e. leadsTo (t2Row n) (stepOf e)) entries
+abbrev pub t2 : ℕ → List Cell → Bool
+t2 n cells = allOf (λ c. leadsTo (t2Row n) (cellStep c)) cells
 
 -- T3: no way from row 0 leads on more than mb_cur_max minus 1 times
 abbrev pub t3 : Rows → ℕ → Bool
@@ -56,10 +57,10 @@ t5Kind point kind = pick (eqb kind 2) true (pick (eqb kind 1) (leb point 0xffff)
 
 abbrev pub t5 : Rows → ℕ → ℕ → Line → Bool
 t5 step min max l =
-    pick (eqb (l .indicator) 2) true
+    pick (hasCode l)
     (pick (leb min (length (l .code)))
     (pick (leb (length (l .code)) max)
-    (t5Kind (l .point) (endKind step 0 (l .code))) false) false)
+    (t5Kind (l .point) (endKind step 0 (l .code))) false) false) true
 
 -- T6: code points are at most U+10FFFF and no surrogate
 abbrev pub t6 : Line → Bool
@@ -68,9 +69,9 @@ t6 l = pick (ltb (l .point) 0xd800) true (pick (ltb (l .point) 0xe000) false (le
 -- T7: a code of two or more bytes that begins 00 is not in a `|0` or `|1` line
 abbrev pub t7 : Line → Bool
 t7 l =
-    pick (leb 2 (l .indicator)) true
+    pick (writesCode l)
     (pick (leb (length (l .code)) 1) true
-    (pick (eqb (getD (l .code) 0 0) 0) false true))
+    (pick (eqb (getD (l .code) 0 0) 0) false true)) true
 
 -- T8: a `|2` line has exactly the subchar1 byte
 abbrev pub t8Byte : Option ℕ → List ℕ → Bool
@@ -78,7 +79,7 @@ t8Byte none c = false
 t8Byte (some b) c = same c (b ∷ [])
 
 abbrev pub t8 : Option ℕ → Line → Bool
-t8 sub1 l = pick (eqb (l .indicator) 2) (t8Byte sub1 (l .code)) true
+t8 sub1 l = pick (isSubstituted l) (t8Byte sub1 (l .code)) true
 
 -- T9: no two lines of `|0` and `|3` share bytes
 abbrev pub sharesBytes : Line → Line → Bool

@@ -1,23 +1,20 @@
 -- What state rows say of a byte string. Rows are known by what a row says of a byte: `step row byte`.
-use Prim.Native.Nat.{ℕ, zero, suc, _+_, _-_, _*_}
+use Prim.Native.Nat.{ℕ, zero, suc, _+_, _*_}
 use mathlib.Core.List.{List, [], _∷_}
 use mathlib.Core.Bool.{Bool, true, false}
 use lib.ListN.{getD}
-use lib.Dec.{leb, eqb}
+use lib.Dec.{eqb}
 use Rattle.lists.specs.Pick.{pick}
+use Rattle.table.specs.Cells.{cellStep, cellIn}
 use Rattle.table.specs.declared.states.Step.{Step}
 use Rattle.table.specs.declared.states.Step.the-variants.{Illegal, Ends, Leads}
 use Rattle.table.specs.declared.states.Halt.the-variants as halt
 use Rattle.table.specs.declared.states.Cut.{Cut}
 use Rattle.table.specs.declared.states.Cut.the-variants.{Complete, Stopped}
 
--- an entry as a number: 0 illegal; 1, 2, 3 ends the code; 16 + n leads on to row n; the others are kept free
-abbrev pub stepOf : ℕ → Step
-stepOf e = pick (leb 16 e) (Leads (e - 16)) (pick (leb 4 e) Illegal (pick (eqb e 0) Illegal (Ends e)))
-
--- row r, byte b of a list of entries stands at 256 r + b; past the end all is illegal
+-- what the numbers in memory say: row r, byte b stands at 256 r + b; past the end all is illegal
 unfoldable pub stepAt : List ℕ → ℕ → ℕ → Step
-stepAt entries row b = stepOf (getD entries (row * 256 + b) 0)
+stepAt entries row b = cellStep (cellIn (getD entries (row * 256 + b) 0))
 
 abbrev pub Rows : Type 0
 Rows = ℕ → ℕ → Step
@@ -26,20 +23,20 @@ Rows = ℕ → ℕ → Step
 abbrev pub longest : ℕ
 longest = 4
 
--- the sequence at the front of s, from a row on, with f bytes left of the longest and k read
-unfoldable pub cutFrom : Rows → ℕ → ℕ → ℕ → List ℕ → Cut
-cutFrom step zero row k s = Stopped (halt.Illegal k)
-cutFrom step (suc f) row k [] = Stopped halt.CutShort
-cutFrom step (suc f) row k (b ∷ s) =
+-- the sequence at the front of s, which began in the row `first`: from a row on, with f bytes left of the longest and k read
+unfoldable pub cutFrom : Rows → ℕ → ℕ → ℕ → ℕ → List ℕ → Cut
+cutFrom step first zero row k s = Stopped (halt.Illegal k)
+cutFrom step first (suc f) row k [] = Stopped halt.CutShort
+cutFrom step first (suc f) row k (b ∷ s) =
     elim (step row b) [
       | Illegal ↦ Stopped (halt.Illegal (k + 1))
       | Ends e ↦ Complete (k + 1) e
-      | Leads n ↦ cutFrom step f n (k + 1) s
+      | Leads n ↦ cutFrom step first f n (k + 1) s
     ]
 
 -- the sequence at the front of s, from its initial row on
 abbrev pub cutOf : Rows → ℕ → List ℕ → Cut
-cutOf step row s = cutFrom step longest row 0 s
+cutOf step row s = cutFrom step row longest row 0 s
 
 abbrev pub isEmpty : List ℕ → Bool
 isEmpty [] = true
@@ -63,6 +60,11 @@ isCode step row s = pick (eqb (endKind step row s) 0) false true
 unfoldable pub allBelow : (ℕ → Bool) → ℕ → Bool
 allBelow f zero = true
 allBelow f (suc n) = pick (allBelow f n) (f n) false
+
+-- f holds of some number below n
+unfoldable pub someBelow : (ℕ → Bool) → ℕ → Bool
+someBelow f zero = false
+someBelow f (suc n) = pick (someBelow f n) true (f n)
 
 abbrev pub leadsTo : (ℕ → Bool) → Step → Bool
 leadsTo w Illegal = true

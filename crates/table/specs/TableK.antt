@@ -4,6 +4,7 @@ use mathlib.Core.Option.{none}
 use mathlib.Core.List.{List, [], _∷_, _++_}
 use lib.ListN.{set, replicate}
 use Rattle.lists.specs.Ascii.{ascii}
+use Rattle.table.specs.Cells.{illegal, ends, endsUnassigned, leads}
 use Rattle.table.specs.Meaning.{Table}
 use Rattle.table.specs.Load.{lineAs}
 
@@ -31,8 +32,8 @@ unfoldable pub tableK : Table
 tableK =
     record {
       rows =
-          set (set (set (set (set (replicate 256 0) 0x2d 1) 0x30 1) 0x33 1) 0x3f 1) 0x81 17
-          ∷ set (set (set (replicate 256 0) 0x7c 1) 0x7d 1) 0x80 3
+          set (set (set (set (set (replicate 256 illegal) 0x2d ends) 0x30 ends) 0x33 ends) 0x3f ends) 0x81 (leads 1)
+          ∷ set (set (set (replicate 256 illegal) 0x7c ends) 0x7d ends) 0x80 endsUnassigned
           ∷ [];
       lines =
           lineAs 0x2212 (0x81 ∷ 0x7d ∷ []) 3

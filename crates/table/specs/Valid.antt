@@ -8,11 +8,13 @@ use lib.ListN.{length, take, drop}
 use Rattle.lists.specs.Pick.{pick}
 use Rattle.lists.specs.Order.{rises, risesFrom, Rising}
 use Rattle.table.specs.Limits.{Limits, needed}
-use Rattle.table.specs.States.{Rows, stepOf, stepAt, leadsTo}
+use Rattle.table.specs.Cells.{cellStep, cellIn, known}
+use Rattle.table.specs.States.{Rows, stepAt, leadsTo}
 use Rattle.table.specs.Codes.{bytesOf}
 use Rattle.table.specs.Rules.{allOf, t1Rows, t1Lines, t1Sizes, t2Row, t3, t4Sub, t4Sub1, t5, t6, t7, t8}
 use Rattle.table.specs.Entry.{Entry, lineIn, entryOk, padded, less, readNext, writeNext, AllApart}
-use Rattle.table.specs.Memory.{entries, entryAt, known, sub1In, Stored}
+use Rattle.table.specs.Slices.{Slices}
+use Rattle.table.specs.Memory.{entries, entryAt, sub1In, Stored}
 use Rattle.table.specs.declared.valid.Record.{Record}
 
 -- all are zeros
@@ -20,9 +22,9 @@ unfoldable pub zeros : List ℕ → Bool
 zeros [] = true
 zeros (x ∷ l) = let r = zeros l in pick (eqb x 0) r false
 
--- an entry of the states: of the form, and T2
+-- a number of the states: of the form, and T2
 abbrev pub stateOk : ℕ → ℕ → Bool
-stateOk n e = pick (known e) (leadsTo (t2Row n) (stepOf e)) false
+stateOk n e = pick (known e) (leadsTo (t2Row n) (cellStep (cellIn e))) false
 
 -- the states: n rows, then zeros up to the needed ones
 unfoldable pub statesOk : Limits → ℕ → List ℕ → Bool
@@ -72,15 +74,15 @@ storeOk limit n codes infos order =
     false) false) false) false) false) false) false) false
 
 -- THE TEST: record and memory keep T1 to T9 and the form
-unfoldable pub valid : Limits → Record → List ℕ → List ℕ → List ℕ → List ℕ → Bool
-valid lim rec states codes infos order =
+unfoldable pub valid : Limits → Record → Slices → Bool
+valid lim rec m =
     pick (recordOk lim rec)
-    (pick (statesOk lim (rec .rows) states)
-    (pick (t3 (stepAt (take (needed lim) states)) (rec .max))
-    (pick (t4Sub (stepAt (take (needed lim) states)) (bytesOf (rec .subchar)))
-    (pick (t4Sub1 (stepAt (take (needed lim) states)) (sub1In (rec .subchar1)))
-    (pick (storeOk (lim .mappings) (rec .mappings) codes infos order)
-    (allOf (lineOk (stepAt (take (needed lim) states)) rec) (entries (take (rec .mappings) codes) (take (rec .mappings) infos)))
+    (pick (statesOk lim (rec .rows) (m .states))
+    (pick (t3 (stepAt (take (needed lim) (m .states))) (rec .max))
+    (pick (t4Sub (stepAt (take (needed lim) (m .states))) (bytesOf (rec .subchar)))
+    (pick (t4Sub1 (stepAt (take (needed lim) (m .states))) (sub1In (rec .subchar1)))
+    (pick (storeOk (lim .mappings) (rec .mappings) (m .codes) (m .infos) (m .order))
+    (allOf (lineOk (stepAt (take (needed lim) (m .states))) rec) (entries (take (rec .mappings) (m .codes)) (take (rec .mappings) (m .infos))))
     false) false) false) false) false) false
 
 -- the mapping slices hold n entries that rise and keep T9

@@ -6,7 +6,7 @@ ghost use lib.ListN.{getD, drop};
 ghost use Rattle.lists.specs.Pick.{pick};
 ghost use Rattle.table.specs.States.{stepAt};
 ghost use Rattle.table.specs.Codes.{codesOn, after, bytesOf, firstCode};
-ghost use Rattle.table.specs.Marks.{rowAlive, MarksOf, isMarked, codesMarked, codesLed, nextMarked, putFirst, Starts};
+ghost use Rattle.table.specs.Marks.{rowAlive, marksOf, isMarked, codesMarked, codesLed, nextMarked, putFirst, Starts};
 use crate::states::Code;
 use crate::states::Step;
 use crate::states::step_at;
@@ -95,7 +95,7 @@ fn row_mark(states: &[u16], marks: &[u8], left: u32, row: u16) -> u8
 // The marks of the rows from which a code can still end, for each number of bytes to come.
 // Those for one byte more go by those for one less, so that each entry is read at most three times.
 pub fn mark_rows(states: &[u16]) -> [u8; 64]
-    ensures { λ r. ⌜ MarksOf (stepAt (now (states .entry))) r ⌝ }
+    ensures { λ r. ⌜ r ≡ marksOf (stepAt (now (states .entry))) ⌝ }
 {
     let mut marks = [0; MARKS];
     let mut i = ROWS;

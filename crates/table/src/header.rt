@@ -1,10 +1,12 @@
 // The lines before CHARMAP: keys, their values, and state rows.
 ghost use mathlib.Core.Path.{_≡_};
 ghost use mathlib.Core.Bool.{true, false};
+ghost use mathlib.Core.List.{map};
 ghost use Prim.Native.Nat.{_+_, _-_, _≤_, _<_};
 ghost use lib.ListN.{length, take, drop, replicate};
 ghost use Rattle.lists.specs.Pick.{pick};
-ghost use Rattle.table.specs.Limits.{limits};
+ghost use Rattle.table.specs.Limits.{limits, needed};
+ghost use Rattle.table.specs.Cells.{ends, cellNumber};
 ghost use Rattle.table.specs.Meaning.{same};
 ghost use Rattle.table.specs.Rules.{anyOf};
 ghost use Rattle.table.specs.Text.{skipAt, flipped, foreign, contentEnd, quoteEnd, numberAt, bytesAt, Within, Keeps, Placed, Stands};
@@ -12,6 +14,7 @@ ghost use Rattle.table.specs.Row.{toAt, nextAt, letterAt, endAt, itemAt,
 ghost use Rattle.table.specs.Header.{keyByte, keyEnd, keyOf, quotedOf, Ranged, nameIn, className, classIn, digitIn, minIn, maxIn, subIn, sub1Value, rowIn, valueOf, isRow, keyLine, keyedLine, lineOf, InLine, InRange};
 ghost use Rattle.table.specs.Numbers.{n11, rowLater, rowOver, lowest, keyConditions};
 ghost use Rattle.table.specs.Load.{keep};
+ghost use Rattle.table.specs.Progress.{keysIn, headOf, ProperHead};
 ghost use Rattle.table.specs.declared.load.Refusal.the-variants.{NotBuilt, OutOfRange};
 ghost use Rattle.table.specs.declared.load.Verdict.the-variants.{Fine, Refuse};
 use crate::load::Refusal;
@@ -376,7 +379,7 @@ fn over_column(e: Column) -> bool
 // What an entry says of its bytes.
 fn mean(e: Column) -> u16
     requires { ⌜ e .next ≤ 256 ⌝ }
-    ensures { λ r. ⌜ r ≡ meaning e ⌝ }
+    ensures { λ r. ⌜ r ≡ cellNumber (meaning e) ⌝ }
 {
     if e.kind == 0 {
         if e.next == 256 {
@@ -444,7 +447,7 @@ fn fill_range(row: &mut [u16], from: usize, to: usize, v: u16)
 // Puts the entries from a place on into a row, later ones over earlier.
 fn paint(s: &[u8], at: usize, row: &mut [u16])
     requires { ⌜ 256 ≤ length (now row) ⌝ }
-    ensures { λ _. ⌜ now (row .exit) ≡ painted (columnsAt (now (s .entry)) at) (now (row .entry)) ⌝ }
+    ensures { λ _. ⌜ now (row .exit) ≡ painted (λ e. cellNumber (meaning e)) (columnsAt (now (s .entry)) at) (now (row .entry)) ⌝ }
 {
     let mut i = at;
     let mut n: usize = 0;
@@ -518,7 +521,7 @@ fn row_value(s: &[u8]) -> Value
 // A row of 256 numbers from its text.
 fn take_row(s: &[u8], row: &mut [u16])
     requires { ⌜ length (now row) ≡ 256 ⌝ }
-    ensures { λ _. ⌜ now (row .exit) ≡ rowOf (columnsOf (now (s .entry))) ⌝ }
+    ensures { λ _. ⌜ now (row .exit) ≡ map cellNumber (rowOf (columnsOf (now (s .entry)))) ⌝ }
 {
     fill_range(row, 0, 255, 0);
     let p = skip(s, 0);
@@ -536,8 +539,8 @@ fn take_row(s: &[u8], row: &mut [u16])
 
 // Row r of the lent states from the text line[q..e].
 fn put_row(line: &[u8], q: usize, e: usize, states: &mut [u16], r: usize)
-    requires { ⌜ (r < 16) × (q ≤ e) × (e ≤ length (now line)) × (4096 ≤ length (now states)) ⌝ }
-    ensures { λ _. ⌜ now (states .exit) ≡ putRow r (rowOf (columnsOf (take (e - q) (drop q (now (line .entry)))))) (now (states .entry)) ⌝ }
+    requires { ⌜ (r < limits .rows) × (q ≤ e) × (e ≤ length (now line)) × (needed limits ≤ length (now states)) ⌝ }
+    ensures { λ _. ⌜ now (states .exit) ≡ putRow r (map cellNumber (rowOf (columnsOf (take (e - q) (drop q (now (line .entry))))))) (now (states .entry)) ⌝ }
 {
     let a = r * 256;
     let b = a + 256;
@@ -811,7 +814,7 @@ pub(crate) fn read_line(s: &[u8]) -> Line
 
 // 11: a key that may come once has come before.
 fn seen(h: Head, k: Key) -> bool
-    ensures { λ r. ⌜ r ≡ n11 h k ⌝ }
+    ensures { λ r. ⌜ r ≡ n11 (keysIn h) k ⌝ }
 {
     match k {
         Key::CodeSetName => h.name,
@@ -860,7 +863,7 @@ fn judge_row(rows: u32, w: u32, l: bool, o: bool) -> Verdict
 
 // The lowest condition that holds at a key's line.
 pub(crate) fn judge_key(h: Head, k: Key, v: Value) -> Verdict
-    ensures { λ r. ⌜ r ≡ lowest (keyConditions limits h k v) ⌝ }
+    ensures { λ r. ⌜ r ≡ lowest (keyConditions limits (keysIn h) (h .rows) k v) ⌝ }
 {
     if seen(h, k) {
         return Verdict::Refuse(Refusal::KeyAgain);
@@ -899,8 +902,8 @@ fn is_row(v: Value) -> bool
 
 // The header with a value in it.
 fn keep_value(h: Head, v: Value) -> Head
-    requires { ⌜ (h .rows < 4096) × InRange v ⌝ }
-    ensures { λ r. ⌜ r ≡ keep h v ⌝ }
+    requires { ⌜ (h .rows ≤ limits .rows) × InRange v × ProperHead h ⌝ }
+    ensures { λ r. ⌜ r ≡ headOf (keep (keysIn h) v) (pick (isRow v) (h .rows + 1) (h .rows)) ⌝ }
 {
     let mut g = h;
     match v {
@@ -948,8 +951,8 @@ pub(crate) fn take_value(
     e: usize,
     states: &mut [u16],
 ) -> Head
-    requires { ⌜ (q ≤ e) × (e ≤ length (now line)) × (4096 ≤ length (now states)) × (isRow v ≡ true → h .rows < 16) × (h .rows < 4096) × InRange v ⌝ }
-    ensures { λ r. ⌜ (r ≡ keep h v) × (now (states .exit) ≡ pick (isRow v) (putRow (h .rows) (rowOf (columnsOf (take (e - q) (drop q (now (line .entry)))))) (now (states .entry))) (now (states .entry))) ⌝ }
+    requires { ⌜ (q ≤ e) × (e ≤ length (now line)) × (needed limits ≤ length (now states)) × (isRow v ≡ true → h .rows < limits .rows) × (h .rows ≤ limits .rows) × InRange v × ProperHead h ⌝ }
+    ensures { λ r. ⌜ (r ≡ headOf (keep (keysIn h) v) (pick (isRow v) (h .rows + 1) (h .rows))) × (now (states .exit) ≡ pick (isRow v) (putRow (h .rows) (map cellNumber (rowOf (columnsOf (take (e - q) (drop q (now (line .entry))))))) (now (states .entry))) (now (states .entry))) ⌝ }
 {
     if is_row(v) {
         put_row(line, q, e, states, h.rows as usize);
@@ -960,8 +963,8 @@ pub(crate) fn take_value(
 
 // The row `0-ff` of an SBCS table without rows.
 pub(crate) fn full_row(states: &mut [u16])
-    requires { ⌜ 4096 ≤ length (now states) ⌝ }
-    ensures { λ _. ⌜ now (states .exit) ≡ putRow 0 (replicate 256 1) (now (states .entry)) ⌝ }
+    requires { ⌜ needed limits ≤ length (now states) ⌝ }
+    ensures { λ _. ⌜ now (states .exit) ≡ putRow 0 (replicate 256 (cellNumber ends)) (now (states .entry)) ⌝ }
 {
     fill_range(states, 0, 255, 1);
 }

@@ -2,6 +2,7 @@
 pub mod codes;
 pub mod header;
 pub mod load;
+pub mod lookup;
 pub mod mapping;
 pub mod states;
 pub mod store;

@@ -31,23 +31,24 @@ ghost use lib.Dec.{leb};
 ghost use lib.ListN.{length, take, drop, replicate};
 ghost use Rattle.lists.specs.Pick.{pick};
 ghost use Rattle.lists.specs.Order.{insert};
-ghost use Rattle.table.specs.Limits.{limits};
+ghost use Rattle.table.specs.Limits.{limits, needed};
+ghost use Rattle.table.specs.Cells.{Cell};
 ghost use Rattle.table.specs.States.{stepAt};
 ghost use Rattle.table.specs.Codes.{packed, AllByte};
 ghost use Rattle.table.specs.Meaning.{Line};
 ghost use Rattle.table.specs.Rules.{t5};
 ghost use Rattle.table.specs.Entry.{mk, extraIn, rankOf, less};
+ghost use Rattle.table.specs.Slices.{Slices, slices};
 ghost use Rattle.table.specs.Memory.{entries};
 ghost use Rattle.table.specs.Search.{readTaken, writeTaken};
 ghost use Rattle.table.specs.Valid.{Kept};
-ghost use Rattle.table.specs.Header.{lineOf, InRange};
-ghost use Rattle.table.specs.Mapping.{mappedOf, lastOf};
+ghost use Rattle.table.specs.Header.{InRange};
 ghost use Rattle.table.specs.Numbers.{numberOf, answerNumber, n13, n16, n20, n22, n23, cond, lowest, rowsAt, keyConditions, charmapConditions, mappingConditions};
-ghost use Rattle.table.specs.Load.{judged, reading, keep, keepRow, headAt, lineAs, headerStep, mappingStep, lastStep, phaseStep, emptyHead, refused, read, loadOf, Small, loadedAs, givenBy, loadedBy, leftBy, statesOf, codesOf, infosOf, orderedOf};
-ghost use Rattle.table.specs.Progress.{Lent, ProperHead, Holding, Held, Beyond, Taken};
+ghost use Rattle.table.specs.Load.{judged, reading, keep, keepRow, lineAs, stepOf, refused, read, loadOf, Small, loadedAs, givenNumber, loadedBy, leftBy, statesOf, codesOf, infosOf, orderedOf, given, leftIn};
+ghost use Rattle.table.specs.Progress.{Lent, keysIn, emptyHead, headAt, ProperHead, Holding, Held, Beyond, Taken};
 ghost use Rattle.table.specs.declared.load.Refusal.the-variants.{NoScalar, NoSuchCode, LeadingZero, NoSubchar1, BytesTaken, PointTaken, TooMany};
 ghost use Rattle.table.specs.declared.load.Verdict.the-variants.{Fine, Refuse};
-ghost use Rattle.table.specs.declared.load.Phase.the-variants.{Header, Mappings};
+ghost use Rattle.table.specs.declared.load.Phase.the-variants.{Header, Mappings, Ended};
 
 // The longest text.
 const TEXT: usize = 1048576;
@@ -163,7 +164,7 @@ pub fn answer_number(a: Answer) -> u32
 
 // 13, at CHARMAP: a required key or row is absent; SBCS may be without rows.
 fn lacks_key(h: Head) -> bool
-    ensures { λ r. ⌜ r ≡ n13 h ⌝ }
+    ensures { λ r. ⌜ r ≡ n13 (keysIn h) (h .rows) ⌝ }
 {
     if !h.name {
         return true;
@@ -188,10 +189,10 @@ fn lacks_key(h: Head) -> bool
 
 // The header at CHARMAP: an SBCS table without rows gets the row `0-ff`.
 fn default_row(h: Head, states: &mut [u16]) -> Head
-    requires { ⌜ ProperHead h × (h .rows ≤ 16) × (4096 ≤ length (now states)) ⌝ }
-    ensures { λ r. ⌜ ((rows : List (List ℕ)) (codes infos order : List ℕ) → Holding limits h 0 rows [] (now (states .entry)) codes infos order
-        → (r ≡ headAt h (rowsAt h rows)) × Holding limits (headAt h (rowsAt h rows)) 0 (rowsAt h rows) [] (now (states .exit)) codes infos order)
-        × ProperHead r × (r .rows ≤ 16) × (drop 4096 (now (states .exit)) ≡ drop 4096 (now (states .entry))) ⌝ }
+    requires { ⌜ ProperHead h × (h .rows ≤ limits .rows) × (needed limits ≤ length (now states)) ⌝ }
+    ensures { λ r. ⌜ ((rows : List (List Cell)) (codes infos order : List ℕ) → Holding limits h 0 rows [] (slices (now (states .entry)) codes infos order)
+        → (r ≡ headAt h (rowsAt (keysIn h) rows)) × Holding limits (headAt h (rowsAt (keysIn h) rows)) 0 (rowsAt (keysIn h) rows) [] (slices (now (states .exit)) codes infos order))
+        × ProperHead r × (r .rows ≤ limits .rows) × (drop (needed limits) (now (states .exit)) ≡ drop (needed limits) (now (states .entry))) ⌝ }
 {
     if h.class == 1 {
         if h.rows == 0 {
@@ -206,8 +207,8 @@ fn default_row(h: Head, states: &mut [u16]) -> Head
 
 // 16 does not hold: the sizes are in order, the states keep T2 and T3, subchar and subchar1 keep T4.
 fn keeps_states(h: Head, states: &[u16]) -> bool
-    requires { ⌜ ProperHead h × (h .rows ≤ 16) × (4096 ≤ length (now states)) ⌝ }
-    ensures { λ r. ⌜ ((rows : List (List ℕ)) (codes infos order : List ℕ) → Holding limits h 0 rows [] (now (states .entry)) codes infos order → r ≡ not (n16 h rows)) ⌝ }
+    requires { ⌜ ProperHead h × (h .rows ≤ limits .rows) × (needed limits ≤ length (now states)) ⌝ }
+    ensures { λ r. ⌜ ((rows : List (List Cell)) (codes infos order : List ℕ) → Holding limits h 0 rows [] (slices (now (states .entry)) codes infos order) → r ≡ not (n16 (keysIn h) rows)) ⌝ }
 {
     if h.max < h.min {
         return false;
@@ -229,10 +230,10 @@ fn keeps_states(h: Head, states: &[u16]) -> bool
 
 // Reads the line CHARMAP.
 fn take_charmap(h: Head, states: &mut [u16]) -> Went
-    requires { ⌜ ProperHead h × (h .rows ≤ 16) × (4096 ≤ length (now states)) ⌝ }
-    ensures { λ r. ⌜ ((rows : List (List ℕ)) (codes infos order : List ℕ) → Holding limits h 0 rows [] (now (states .entry)) codes infos order
-        → Taken limits (judged (lowest (charmapConditions h rows)) (reading Mappings (headAt h (rowsAt h rows)) (rowsAt h rows) [])) r (now (states .exit)) codes infos order)
-        × (drop 4096 (now (states .exit)) ≡ drop 4096 (now (states .entry))) ⌝ }
+    requires { ⌜ ProperHead h × (h .rows ≤ limits .rows) × (needed limits ≤ length (now states)) ⌝ }
+    ensures { λ r. ⌜ ((rows : List (List Cell)) (codes infos order : List ℕ) → Holding limits h 0 rows [] (slices (now (states .entry)) codes infos order)
+        → Taken limits (judged (lowest (charmapConditions (keysIn h) rows)) (reading Mappings (keysIn h) (rowsAt (keysIn h) rows) [])) r (slices (now (states .exit)) codes infos order))
+        × (drop (needed limits) (now (states .exit)) ≡ drop (needed limits) (now (states .entry))) ⌝ }
 {
     if lacks_key(h) {
         return Went::Stop(Refusal::KeyAbsent);
@@ -250,10 +251,10 @@ fn take_charmap(h: Head, states: &mut [u16]) -> Went
 
 // Reads the line of a key.
 fn take_key(h: Head, k: Key, v: Value, line: &[u8], q: usize, e: usize, states: &mut [u16]) -> Went
-    requires { ⌜ (q ≤ e) × (e ≤ length (now line)) × InRange v × (h .rows ≤ 16) × (4096 ≤ length (now states)) ⌝ }
-    ensures { λ r. ⌜ ((rows : List (List ℕ)) (codes infos order : List ℕ) → Holding limits h 0 rows [] (now (states .entry)) codes infos order
-        → Taken limits (judged (lowest (keyConditions limits h k v)) (reading Header (keep h v) (keepRow v (take (e - q) (drop q (now (line .entry)))) rows) [])) r (now (states .exit)) codes infos order)
-        × (drop 4096 (now (states .exit)) ≡ drop 4096 (now (states .entry))) ⌝ }
+    requires { ⌜ (q ≤ e) × (e ≤ length (now line)) × InRange v × (h .rows ≤ limits .rows) × (needed limits ≤ length (now states)) × ProperHead h ⌝ }
+    ensures { λ r. ⌜ ((rows : List (List Cell)) (codes infos order : List ℕ) → Holding limits h 0 rows [] (slices (now (states .entry)) codes infos order)
+        → Taken limits (judged (lowest (keyConditions limits (keysIn h) (length rows) k v)) (reading Header (keep (keysIn h) v) (keepRow v (take (e - q) (drop q (now (line .entry)))) rows) [])) r (slices (now (states .exit)) codes infos order))
+        × (drop (needed limits) (now (states .exit)) ≡ drop (needed limits) (now (states .entry))) ⌝ }
 {
     let x = judge_key(h, k, v);
     match x {
@@ -271,10 +272,10 @@ fn take_key(h: Head, k: Key, v: Value, line: &[u8], q: usize, e: usize, states: 
 
 // Reads a line before CHARMAP.
 fn take_header(h: Head, line: &[u8], states: &mut [u16]) -> Went
-    requires { ⌜ ProperHead h × (h .rows ≤ 16) × (4096 ≤ length (now states)) ⌝ }
-    ensures { λ r. ⌜ ((rows : List (List ℕ)) (codes infos order : List ℕ) → Holding limits h 0 rows [] (now (states .entry)) codes infos order
-        → Taken limits (headerStep lowest limits h rows (now (line .entry)) (lineOf (now (line .entry)))) r (now (states .exit)) codes infos order)
-        × (drop 4096 (now (states .exit)) ≡ drop 4096 (now (states .entry))) ⌝ }
+    requires { ⌜ ProperHead h × (h .rows ≤ limits .rows) × (needed limits ≤ length (now states)) ⌝ }
+    ensures { λ r. ⌜ ((rows : List (List Cell)) (codes infos order : List ℕ) → Holding limits h 0 rows [] (slices (now (states .entry)) codes infos order)
+        → Taken limits (stepOf lowest limits (reading Header (keysIn h) rows []) (now (line .entry))) r (slices (now (states .exit)) codes infos order))
+        × (drop (needed limits) (now (states .exit)) ≡ drop (needed limits) (now (states .entry))) ⌝ }
 {
     let l = read_line(line);
     match l {
@@ -291,10 +292,10 @@ fn take_header(h: Head, line: &[u8], states: &mut [u16]) -> Went
 
 // 20 to 23: the mapping of a code point, a code of `len` bytes and an indicator, by itself.
 fn judge_mapping(h: Head, states: &[u16], u: u32, bits: u32, len: usize, d: u32) -> Verdict
-    requires { ⌜ (h .max ≤ 4) × (4096 ≤ length (now states)) × (1 ≤ len) × (d ≤ 3) ⌝ }
+    requires { ⌜ (h .max ≤ 4) × (needed limits ≤ length (now states)) × (1 ≤ len) × (d ≤ 3) ⌝ }
     ensures { λ r. ⌜ ((c : List ℕ) → AllByte c → bits ≡ packed c → len ≡ length c
-        → r ≡ lowest (cond NoScalar (n20 (lineAs u c d)) ∷ cond NoSuchCode (not (t5 (stepAt (take 4096 (now (states .entry)))) (h .min) (h .max) (lineAs u c d)))
-        ∷ cond LeadingZero (n22 (lineAs u c d)) ∷ cond NoSubchar1 (n23 h (lineAs u c d)) ∷ []))
+        → r ≡ lowest (cond NoScalar (n20 (lineAs u c d)) ∷ cond NoSuchCode (not (t5 (stepAt (take (needed limits) (now (states .entry)))) (h .min) (h .max) (lineAs u c d)))
+        ∷ cond LeadingZero (n22 (lineAs u c d)) ∷ cond NoSubchar1 (n23 (keysIn h) (lineAs u c d)) ∷ []))
         × (r ≡ Fine → (u < 2097152) × (len ≤ 4)) ⌝ }
 {
     if !keeps_t6(u) {
@@ -349,7 +350,7 @@ fn info_of(u: u32, len: usize, d: u32) -> u32
     if d == 1 {
         return base + 4194304;
     }
-    base + 6291456
+    base + 8388608
 }
 
 // 24 to 26; if none holds, the mapping is put into the slices.
@@ -361,14 +362,14 @@ fn add_entry(
     c: u32,
     i: u32,
 ) -> Verdict
-    requires { ⌜ Kept 2048 n (now codes) (now infos) (now order) × (extraIn i < 4) ⌝ }
+    requires { ⌜ Kept (limits .mappings) n (now codes) (now infos) (now order) × (extraIn i < 4) ⌝ }
     ensures { λ r. ⌜ (r ≡ pick (readTaken (mk c i) (entries (take n (now (codes .entry))) (take n (now (infos .entry))))) (Refuse BytesTaken)
-        (pick (writeTaken (mk c i) (entries (take n (now (codes .entry))) (take n (now (infos .entry))))) (Refuse PointTaken) (pick (leb 2048 n) (Refuse TooMany) Fine)))
-        × (r ≡ Fine → Kept 2048 (n + 1) (now (codes .exit)) (now (infos .exit)) (now (order .exit))
+        (pick (writeTaken (mk c i) (entries (take n (now (codes .entry))) (take n (now (infos .entry))))) (Refuse PointTaken) (pick (leb (limits .mappings) n) (Refuse TooMany) Fine)))
+        × (r ≡ Fine → Kept (limits .mappings) (n + 1) (now (codes .exit)) (now (infos .exit)) (now (order .exit))
         × (entries (take (n + 1) (now (codes .exit))) (take (n + 1) (now (infos .exit))) ≡ insert less (mk c i) (entries (take n (now (codes .entry))) (take n (now (infos .entry))))))
-        × (drop 2048 (now (codes .exit)) ≡ drop 2048 (now (codes .entry)))
-        × (drop 2048 (now (infos .exit)) ≡ drop 2048 (now (infos .entry)))
-        × (drop 2048 (now (order .exit)) ≡ drop 2048 (now (order .entry))) ⌝ }
+        × (drop (limits .mappings) (now (codes .exit)) ≡ drop (limits .mappings) (now (codes .entry)))
+        × (drop (limits .mappings) (now (infos .exit)) ≡ drop (limits .mappings) (now (infos .entry)))
+        × (drop (limits .mappings) (now (order .exit)) ≡ drop (limits .mappings) (now (order .entry))) ⌝ }
 {
     if read_taken(codes, infos, n, c, i) {
         return Verdict::Refuse(Refusal::BytesTaken);
@@ -396,11 +397,14 @@ fn add_mapping(
     infos: &mut [u32],
     order: &mut [u32],
 ) -> Went
-    requires { ⌜ Lent limits (now states) (now codes) (now infos) (now order) × Held limits h n (now states) (now codes) (now infos) (now order) × (1 ≤ len) × (d ≤ 3) ⌝ }
-    ensures { λ r. ⌜ ((rows : List (List ℕ)) (ls : List Line) (c : List ℕ) → Holding limits h n rows ls (now (states .entry)) (now (codes .entry)) (now (infos .entry)) (now (order .entry))
+    requires { ⌜ (let m = slices (now states) (now codes) (now infos) (now order) in
+        Lent limits m × Held limits h n m × (1 ≤ len) × (d ≤ 3)) ⌝ }
+    ensures { λ r. ⌜ (let m = slices (now (states .entry)) (now (codes .entry)) (now (infos .entry)) (now (order .entry)) in
+        let m′ = slices (now (states .entry)) (now (codes .exit)) (now (infos .exit)) (now (order .exit)) in
+        ((rows : List (List Cell)) (ls : List Line) (c : List ℕ) → Holding limits h n rows ls m
         → AllByte c → bits ≡ packed c → len ≡ length c
-        → Taken limits (judged (lowest (mappingConditions limits h rows ls (lineAs u c d))) (reading Mappings h rows (lineAs u c d ∷ ls))) r (now (states .entry)) (now (codes .exit)) (now (infos .exit)) (now (order .exit)))
-        × Beyond limits (now (states .entry)) (now (codes .entry)) (now (infos .entry)) (now (order .entry)) (now (states .entry)) (now (codes .exit)) (now (infos .exit)) (now (order .exit)) ⌝ }
+        → Taken limits (judged (lowest (mappingConditions limits (keysIn h) rows ls (lineAs u c d))) (reading Mappings (keysIn h) rows (lineAs u c d ∷ ls))) r m′)
+        × Beyond limits m m′) ⌝ }
 {
     let own = judge_mapping(h, states, u, bits, len, d);
     match own {
@@ -430,10 +434,13 @@ fn take_mapping(
     infos: &mut [u32],
     order: &mut [u32],
 ) -> Went
-    requires { ⌜ Lent limits (now states) (now codes) (now infos) (now order) × Held limits h n (now states) (now codes) (now infos) (now order) ⌝ }
-    ensures { λ r. ⌜ ((rows : List (List ℕ)) (ls : List Line) → Holding limits h n rows ls (now (states .entry)) (now (codes .entry)) (now (infos .entry)) (now (order .entry))
-        → Taken limits (mappingStep lowest limits h rows ls (mappedOf (now (line .entry)))) r (now (states .entry)) (now (codes .exit)) (now (infos .exit)) (now (order .exit)))
-        × Beyond limits (now (states .entry)) (now (codes .entry)) (now (infos .entry)) (now (order .entry)) (now (states .entry)) (now (codes .exit)) (now (infos .exit)) (now (order .exit)) ⌝ }
+    requires { ⌜ (let m = slices (now states) (now codes) (now infos) (now order) in
+        Lent limits m × Held limits h n m) ⌝ }
+    ensures { λ r. ⌜ (let m = slices (now (states .entry)) (now (codes .entry)) (now (infos .entry)) (now (order .entry)) in
+        let m′ = slices (now (states .entry)) (now (codes .exit)) (now (infos .exit)) (now (order .exit)) in
+        ((rows : List (List Cell)) (ls : List Line) → Holding limits h n rows ls m
+        → Taken limits (stepOf lowest limits (reading Mappings (keysIn h) rows ls) (now (line .entry))) r m′)
+        × Beyond limits m m′) ⌝ }
 {
     let l = read_mapping(line);
     match l {
@@ -457,8 +464,8 @@ fn take_mapping(
 
 // Reads a line behind END CHARMAP.
 fn take_last(h: Head, n: u32, line: &[u8]) -> Went
-    ensures { λ r. ⌜ ((rows : List (List ℕ)) (ls : List Line) (states codes infos order : List ℕ) → Holding limits h n rows ls states codes infos order
-        → Taken limits (lastStep h rows ls (lastOf (now (line .entry)))) r states codes infos order) ⌝ }
+    ensures { λ r. ⌜ ((rows : List (List Cell)) (ls : List Line) (m : Slices) → Holding limits h n rows ls m
+        → Taken limits (stepOf lowest limits (reading Ended (keysIn h) rows ls) (now (line .entry))) r m) ⌝ }
 {
     let l = read_last(line);
     match l {
@@ -483,13 +490,16 @@ fn take_line(
     infos: &mut [u32],
     order: &mut [u32],
 ) -> Went
-    requires { ⌜ Lent limits (now states) (now codes) (now infos) (now order)
-        × Held limits (p .head) (p .mappings) (now states) (now codes) (now infos) (now order)
-        × (p .phase ≡ Header → p .mappings ≡ 0) ⌝ }
-    ensures { λ r. ⌜ ((rows : List (List ℕ)) (ls : List Line)
-        → Holding limits (p .head) (p .mappings) rows ls (now (states .entry)) (now (codes .entry)) (now (infos .entry)) (now (order .entry))
-        → Taken limits (phaseStep lowest limits (p .phase) (p .head) rows ls (now (line .entry))) r (now (states .exit)) (now (codes .exit)) (now (infos .exit)) (now (order .exit)))
-        × Beyond limits (now (states .entry)) (now (codes .entry)) (now (infos .entry)) (now (order .entry)) (now (states .exit)) (now (codes .exit)) (now (infos .exit)) (now (order .exit)) ⌝ }
+    requires { ⌜ (let m = slices (now states) (now codes) (now infos) (now order) in
+        Lent limits m
+        × Held limits (p .head) (p .mappings) m
+        × (p .phase ≡ Header → p .mappings ≡ 0)) ⌝ }
+    ensures { λ r. ⌜ (let m = slices (now (states .entry)) (now (codes .entry)) (now (infos .entry)) (now (order .entry)) in
+        let m′ = slices (now (states .exit)) (now (codes .exit)) (now (infos .exit)) (now (order .exit)) in
+        ((rows : List (List Cell)) (ls : List Line)
+        → Holding limits (p .head) (p .mappings) rows ls m
+        → Taken limits (stepOf lowest limits (reading (p .phase) (keysIn (p .head)) rows ls) (now (line .entry))) r m′)
+        × Beyond limits m m′) ⌝ }
 {
     let h = p.head;
     let phase = p.phase;
@@ -502,11 +512,11 @@ fn take_line(
 
 // Sets all needed places to zero.
 fn wipe(states: &mut [u16], codes: &mut [u32], infos: &mut [u32], order: &mut [u32])
-    requires { ⌜ Lent limits (now states) (now codes) (now infos) (now order) ⌝ }
-    ensures { λ _. ⌜ (now (states .exit) ≡ replicate 4096 0 ++ drop 4096 (now (states .entry)))
-        × (now (codes .exit) ≡ replicate 2048 0 ++ drop 2048 (now (codes .entry)))
-        × (now (infos .exit) ≡ replicate 2048 0 ++ drop 2048 (now (infos .entry)))
-        × (now (order .exit) ≡ replicate 2048 0 ++ drop 2048 (now (order .entry))) ⌝ }
+    requires { ⌜ Lent limits (slices (now states) (now codes) (now infos) (now order)) ⌝ }
+    ensures { λ _. ⌜ (now (states .exit) ≡ replicate (needed limits) 0 ++ drop (needed limits) (now (states .entry)))
+        × (now (codes .exit) ≡ replicate (limits .mappings) 0 ++ drop (limits .mappings) (now (codes .entry)))
+        × (now (infos .exit) ≡ replicate (limits .mappings) 0 ++ drop (limits .mappings) (now (infos .entry)))
+        × (now (order .exit) ≡ replicate (limits .mappings) 0 ++ drop (limits .mappings) (now (order .entry))) ⌝ }
 {
     zero_states(states, NEEDED);
     zero_mappings(codes, MAPPINGS);
@@ -540,14 +550,16 @@ fn run(
     infos: &mut [u32],
     order: &mut [u32],
 ) -> Loaded
-    requires { ⌜ (length (now text) ≤ 1048576)
-        × Lent limits (now states) (now codes) (now infos) (now order)
-        × Holding limits emptyHead 0 [] [] (now states) (now codes) (now infos) (now order) ⌝ }
-    ensures { λ r. ⌜ (r ≡ loadedAs (loadOf limits (now (text .entry))))
-        × (now (states .exit) ≡ leftBy 4096 statesOf (read (loadOf limits (now (text .entry)))) (now (states .entry)))
-        × (now (codes .exit) ≡ leftBy 2048 codesOf (read (loadOf limits (now (text .entry)))) (now (codes .entry)))
-        × (now (infos .exit) ≡ leftBy 2048 infosOf (read (loadOf limits (now (text .entry)))) (now (infos .entry)))
-        × (now (order .exit) ≡ leftBy 2048 orderedOf (read (loadOf limits (now (text .entry)))) (now (order .entry))) ⌝ }
+    requires { ⌜ (let m = slices (now states) (now codes) (now infos) (now order) in
+        (length (now text) ≤ limits .text)
+        × Lent limits m
+        × Holding limits emptyHead 0 [] [] m) ⌝ }
+    ensures { λ r. ⌜ (let outcome = loadOf limits (now (text .entry)) in
+        (r ≡ loadedAs outcome)
+        × (now (states .exit) ≡ leftBy (needed limits) statesOf (read outcome) (now (states .entry)))
+        × (now (codes .exit) ≡ leftBy (limits .mappings) codesOf (read outcome) (now (codes .entry)))
+        × (now (infos .exit) ≡ leftBy (limits .mappings) infosOf (read outcome) (now (infos .entry)))
+        × (now (order .exit) ≡ leftBy (limits .mappings) orderedOf (read outcome) (now (order .entry)))) ⌝ }
 {
     let mut at: usize = 0;
     let mut k: usize = 0;
@@ -615,11 +627,11 @@ pub fn load(
     infos: &mut [u32],
     order: &mut [u32],
 ) -> Loaded
-    ensures { λ r. ⌜ (r ≡ loadedBy (givenBy limits (now (text .entry)) (length (now (states .entry))) (length (now (codes .entry))) (length (now (infos .entry))) (length (now (order .entry)))))
-        × (now (states .exit) ≡ leftBy 4096 statesOf (givenBy limits (now (text .entry)) (length (now (states .entry))) (length (now (codes .entry))) (length (now (infos .entry))) (length (now (order .entry)))) (now (states .entry)))
-        × (now (codes .exit) ≡ leftBy 2048 codesOf (givenBy limits (now (text .entry)) (length (now (states .entry))) (length (now (codes .entry))) (length (now (infos .entry))) (length (now (order .entry)))) (now (codes .entry)))
-        × (now (infos .exit) ≡ leftBy 2048 infosOf (givenBy limits (now (text .entry)) (length (now (states .entry))) (length (now (codes .entry))) (length (now (infos .entry))) (length (now (order .entry)))) (now (infos .entry)))
-        × (now (order .exit) ≡ leftBy 2048 orderedOf (givenBy limits (now (text .entry)) (length (now (states .entry))) (length (now (codes .entry))) (length (now (infos .entry))) (length (now (order .entry)))) (now (order .entry))) ⌝ }
+    ensures { λ r. ⌜ (let old = slices (now (states .entry)) (now (codes .entry)) (now (infos .entry)) (now (order .entry)) in
+        let g = given limits (now (text .entry)) old in
+        (r ≡ loadedBy g)
+        × (answerNumber (r .answer) ≡ givenNumber g)
+        × (slices (now (states .exit)) (now (codes .exit)) (now (infos .exit)) (now (order .exit)) ≡ leftIn limits g old)) ⌝ }
 {
     if too_small(states.len(), codes.len(), infos.len(), order.len()) {
         return refuse(Refusal::MemoryTooSmall, 0);

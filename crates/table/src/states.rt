@@ -5,12 +5,12 @@ ghost use Prim.Native.Nat.{ℕ, _+_, _-_, _*_, _<_, _≤_};
 ghost use lib.Dec.{ltb};
 ghost use lib.ListN.{length, getD, take, drop};
 ghost use Rattle.lists.specs.Pick.{pick};
-ghost use Rattle.table.specs.Limits.{limits};
+ghost use Rattle.table.specs.Limits.{limits, needed};
 ghost use Rattle.table.specs.States.{stepAt, cutFrom, cutOf, endKind};
 ghost use Rattle.table.specs.Codes.{unpacked, bytesOf};
 ghost use Rattle.table.specs.Rules.{allOf, t3};
 ghost use Rattle.table.specs.Valid.{stateOk, statesOk, zeros};
-ghost use Rattle.table.specs.LeadMarks.{marked, MarksOf, markedWithin};
+ghost use Rattle.table.specs.LeadMarks.{leadMarks, noMarks, marked, markedWithin};
 
 // The entries of a row.
 const ROW: usize = 256;
@@ -77,10 +77,10 @@ pub fn step_at(states: &[u16], row: u16, b: u8) -> Step
     Step::Ends(e)
 }
 
-// The rest of a sequence of which `from` bytes led on to a row.
+// The rest of a sequence of which `from` bytes led on to a row, whatever row it began in.
 fn cut_on(states: &[u16], row: u16, s: &[u8], from: usize) -> Cut
     requires { ⌜ from ≤ 4 ⌝ }
-    ensures { λ r. ⌜ r ≡ cutFrom (stepAt (now (states .entry))) (4 - from) row from (drop from (now (s .entry))) ⌝ }
+    ensures { λ r. ⌜ ((first : ℕ) → r ≡ cutFrom (stepAt (now (states .entry))) first (4 - from) row from (drop from (now (s .entry)))) ⌝ }
 {
     let mut at_row = row;
     let mut at = from;
@@ -157,7 +157,7 @@ pub fn end_kind(states: &[u16], row: u16, code: Code) -> u16
     0
 }
 
-// Whether the entries of the rows are of the form and keep T2, and, if so, the marks of which row leads on to which.
+// Whether the entries of the rows are of the form and keep T2, and, if so, the marks of which row leads on to which; else none.
 struct Marks {
     ok: bool,
     marks: [bool; MARKS],
@@ -165,10 +165,12 @@ struct Marks {
 
 // One pass over the entries of the rows: each is read once.
 fn mark_rows(states: &[u16], rows: u32) -> Marks
-    requires { ⌜ (rows ≤ 16) × (4096 ≤ length (now states)) ⌝ }
-    ensures { λ r. ⌜ (r .ok ≡ allOf (stateOk rows) (take (rows * 256) (now (states .entry)))) × (r .ok ≡ true → MarksOf rows (r .marks) (stepAt (now (states .entry)))) ⌝ }
+    requires { ⌜ (rows ≤ limits .rows) × (needed limits ≤ length (now states)) ⌝ }
+    ensures { λ r. ⌜ (let ok = allOf (stateOk rows) (take (rows * 256) (now (states .entry))) in
+        (r .ok ≡ ok) × (r .marks ≡ pick ok (leadMarks rows (stepAt (now (states .entry)))) noMarks)) ⌝ }
 {
-    let mut marks = [false; MARKS];
+    let none = [false; MARKS];
+    let mut marks = none;
     let count = rows as usize;
     let mut i = 0;
     while i < count * ROW {
@@ -180,14 +182,14 @@ fn mark_rows(states: &[u16], rows: u32) -> Marks
         if e <= LEADS {
             return Marks {
                 ok: false,
-                marks: marks,
+                marks: none,
             };
         }
         let k = (e - LEADS) as usize;
         if count <= k {
             return Marks {
                 ok: false,
-                marks: marks,
+                marks: none,
             };
         }
         marks[i / ROW * ROWS + k] = true;
@@ -201,8 +203,8 @@ fn mark_rows(states: &[u16], rows: u32) -> Marks
 
 // Whether the needed numbers from a place on are zeros. All are read in any case, so that many can be read at once.
 fn zeros_from(states: &[u16], from: usize) -> bool
-    requires { ⌜ (from ≤ 4096) × (4096 ≤ length (now states)) ⌝ }
-    ensures { λ r. ⌜ r ≡ zeros (take (4096 - from) (drop from (now (states .entry)))) ⌝ }
+    requires { ⌜ (from ≤ needed limits) × (needed limits ≤ length (now states)) ⌝ }
+    ensures { λ r. ⌜ r ≡ zeros (take (needed limits - from) (drop from (now (states .entry)))) ⌝ }
 {
     let mut ok = true;
     let mut i = from;
@@ -219,8 +221,8 @@ fn zeros_from(states: &[u16], from: usize) -> bool
 
 // For each row: whether `below` holds of every row that it leads on to. A row past the last leads nowhere.
 fn level(marks: &[bool; MARKS], rows: u32, below: [bool; ROWS]) -> [bool; ROWS]
-    requires { ⌜ rows ≤ 16 ⌝ }
-    ensures { λ r. ⌜ ((k : ℕ) → k < 16 → getD r k false ≡ pick (ltb k rows) (marked (now (marks .entry)) (λ j. getD below j false) k) true) ⌝ }
+    requires { ⌜ rows ≤ limits .rows ⌝ }
+    ensures { λ r. ⌜ ((k : ℕ) → k < limits .rows → getD r k false ≡ pick (ltb k rows) (marked (now (marks .entry)) (λ j. getD below j false) k) true) ⌝ }
 {
     let mut out = [true; ROWS];
     let count = (rows as usize) * ROWS;
@@ -242,7 +244,7 @@ fn level(marks: &[bool; MARKS], rows: u32, below: [bool; ROWS]) -> [bool; ROWS]
 
 // Whether every way from row 0 leads on fewer than `max` times, by the marks.
 fn marked_within(marks: &[bool; MARKS], rows: u32, max: u32) -> bool
-    requires { ⌜ rows ≤ 16 ⌝ }
+    requires { ⌜ rows ≤ limits .rows ⌝ }
     ensures { λ r. ⌜ r ≡ markedWithin rows (now (marks .entry)) max 0 ⌝ }
 {
     let mut reach = [false; ROWS];
@@ -256,8 +258,8 @@ fn marked_within(marks: &[bool; MARKS], rows: u32, max: u32) -> bool
 
 // The states of the test behind number 60: the form, T2, and T3.
 pub(crate) fn states_ok(states: &[u16], rows: u32, max: u32) -> bool
-    requires { ⌜ (rows ≤ 16) × (max ≤ 4) ⌝ }
-    ensures { λ r. ⌜ r ≡ pick (statesOk limits rows (now (states .entry))) (t3 (stepAt (take 4096 (now (states .entry)))) max) false ⌝ }
+    requires { ⌜ (rows ≤ limits .rows) × (max ≤ 4) ⌝ }
+    ensures { λ r. ⌜ r ≡ pick (statesOk limits rows (now (states .entry))) (t3 (stepAt (take (needed limits) (now (states .entry)))) max) false ⌝ }
 {
     if states.len() < NEEDED {
         return false;

@@ -3,24 +3,15 @@
 use crate::states::Code;
 ghost use mathlib.Core.Path.{_≡_};
 ghost use mathlib.Core.Bool.{true};
-ghost use mathlib.Core.List.{List, _++_, map};
+ghost use mathlib.Core.List.{_++_, map};
 ghost use Prim.Native.Nat.{ℕ, _+_, _-_, _≤_, _<_};
 ghost use lib.ListN.{length, take, drop};
 ghost use Rattle.lists.specs.Order.{All, Rising, insert};
 ghost use Rattle.table.specs.Entry.{mk, bitsOf, infoOf, extraIn, keyIn, less, pointLess};
-ghost use Rattle.table.specs.Memory.{entries, entryAt, orderOf};
-ghost use Rattle.table.specs.Search.{readsCode, writesPoint, readOf, writeOf, placeIn, pointPlaceIn, picked, shiftIn, bump, readTaken, writeTaken, Ready, LineAt};
+ghost use Rattle.table.specs.Limits.{limits};
+ghost use Rattle.table.specs.Memory.{entries, orderOf};
+ghost use Rattle.table.specs.Search.{readsCode, writesPoint, isAt, holdsAt, FirstAt, placeIn, pointPlaceIn, picked, shiftIn, bump, readTaken, writeTaken, Ready};
 ghost use Rattle.table.specs.Valid.{zeros, storeOk, Kept};
-
-// How often a search looks at an entry at most: enough for 4,095 of them.
-const LOOKS: u32 = 12;
-
-// A stored mapping by its two numbers, or that there is none. The first is the code; the second holds the code point,
-// how the line is read and written (its rank), and the count of bytes.
-pub enum Found {
-    Hit(u32, u32),
-    Nothing,
-}
 
 // The key of the second order: the code point, then lines that write before `|3` lines.
 pub(crate) fn key_of(info: u32) -> u32
@@ -75,20 +66,16 @@ pub(crate) fn zeros_ok(xs: &[u32]) -> bool
     true
 }
 
-// The first entry that is not less than (c, i), or their count, if they rise.
+// The first entry that is not less than (c, i), or their count, if they rise. What is left to look at halves with each
+// look: of 2,048 entries 12 are looked at, at most.
 fn place(codes: &[u32], infos: &[u32], c: u32, i: u32) -> usize
     requires { ⌜ length (now codes) ≡ length (now infos) ⌝ }
-    ensures { λ r. ⌜ (r ≤ length (now (codes .entry))) × (length (now (codes .entry)) < 4096 → Rising less (entries (now (codes .entry)) (now (infos .entry)))
+    ensures { λ r. ⌜ (r ≤ length (now (codes .entry))) × (Rising less (entries (now (codes .entry)) (now (infos .entry)))
         → r ≡ placeIn (mk c i) (entries (now (codes .entry)) (now (infos .entry)))) ⌝ }
 {
     let mut base: usize = 0;
     let mut size: usize = codes.len();
-    let mut left: u32 = LOOKS;
-    while 0 < left {
-        if size == 0 {
-            return base;
-        }
-        left -= 1;
+    while 0 < size {
         let half = size / 2;
         let mid = base + half;
         if entry_less(codes[mid], infos[mid], c, i) {
@@ -104,18 +91,13 @@ fn place(codes: &[u32], infos: &[u32], c: u32, i: u32) -> usize
 // The same in the second order, through the indices; one that is out of range ends the search.
 fn place_point(codes: &[u32], infos: &[u32], order: &[u32], c: u32, i: u32) -> usize
     requires { ⌜ length (now codes) ≡ length (now infos) ⌝ }
-    ensures { λ r. ⌜ (r ≤ length (now (order .entry))) × (length (now (order .entry)) < 4096 → All (λ k. k < length (now (codes .entry))) (now (order .entry))
+    ensures { λ r. ⌜ (r ≤ length (now (order .entry))) × (All (λ k. k < length (now (codes .entry))) (now (order .entry))
         → Rising pointLess (picked (now (codes .entry)) (now (infos .entry)) (now (order .entry)))
         → r ≡ pointPlaceIn (mk c i) (picked (now (codes .entry)) (now (infos .entry)) (now (order .entry)))) ⌝ }
 {
     let mut base: usize = 0;
     let mut size: usize = order.len();
-    let mut left: u32 = LOOKS;
-    while 0 < left {
-        if size == 0 {
-            return base;
-        }
-        left -= 1;
+    while 0 < size {
         let half = size / 2;
         let mid = base + half;
         let k = order[mid] as usize;
@@ -134,7 +116,7 @@ fn place_point(codes: &[u32], infos: &[u32], order: &[u32], c: u32, i: u32) -> u
 
 // Whether a stored line reads a code.
 fn reads_code(c: u32, i: u32, code: Code) -> bool
-    ensures { λ r. ⌜ (1 ≤ code .len → r ≡ readsCode (code .bits) (code .len - 1) (mk c i)) ⌝ }
+    ensures { λ r. ⌜ r ≡ readsCode (code .bits) (code .len) (mk c i) ⌝ }
 {
     if c != code.bits {
         return false;
@@ -158,81 +140,62 @@ fn writes_point(i: u32, point: u32) -> bool
     true
 }
 
-// The entry that reads a code. Of entries that do not rise, which no memory that passes the test behind 60 has,
-// the contract says nothing.
-pub fn find_code(codes: &[u32], infos: &[u32], n: u32, code: Code) -> Found
-    ensures { λ r. ⌜ (Rising less (entries (take n (now (codes .entry))) (take n (now (infos .entry)))) → n ≤ 2048
-        → n ≤ length (now (codes .entry)) → n ≤ length (now (infos .entry)) → 1 ≤ code .len → code .len ≤ 4
-        → r ≡ readOf (code .bits) (code .len - 1) (entries (take n (now (codes .entry))) (take n (now (infos .entry))))) ⌝ }
+// The place of the entry that reads a code, if one of the first n does and they rise.
+pub(crate) fn code_place(codes: &[u32], infos: &[u32], n: u32, code: Code) -> usize
+    ensures { λ r. ⌜ (Rising less (entries (take n (now (codes .entry))) (take n (now (infos .entry))))
+        → n ≤ length (now (codes .entry)) → n ≤ length (now (infos .entry)) → code .len ≤ 4
+        → FirstAt (readsCode (code .bits) (code .len)) n (now (codes .entry)) (now (infos .entry)) r) ⌝ }
 {
     let m = n as usize;
     if codes.len() < m {
-        return Found::Nothing;
+        return m;
     }
     if infos.len() < m {
-        return Found::Nothing;
+        return m;
     }
     if code.len < 1 {
-        return Found::Nothing;
+        return m;
     }
     if 4 < code.len {
-        return Found::Nothing;
+        return m;
     }
-    let at = place(
+    place(
         &codes[..m],
         &infos[..m],
         code.bits,
         (code.len - 1) * 16777216,
-    );
-    if m <= at {
-        return Found::Nothing;
-    }
-    let c = codes[at];
-    let i = infos[at];
-    if reads_code(c, i, code) {
-        return Found::Hit(c, i);
-    }
-    Found::Nothing
+    )
 }
 
-// The entry that says what becomes of a code point. Of mappings that do not pass the test behind 60 the contract says
-// nothing.
-pub fn find_point(codes: &[u32], infos: &[u32], order: &[u32], n: u32, point: u32) -> Found
-    ensures { λ r. ⌜ (storeOk 2048 n (now (codes .entry)) (now (infos .entry)) (now (order .entry)) ≡ true
-        → r ≡ writeOf point (entries (take n (now (codes .entry))) (take n (now (infos .entry))))) ⌝ }
+// The place, in the first order, of the entry that says what becomes of a code point, if one does and the mappings pass
+// the test behind 60.
+pub(crate) fn point_place(codes: &[u32], infos: &[u32], order: &[u32], n: u32, point: u32) -> usize
+    ensures { λ r. ⌜ ((limit : ℕ) → storeOk limit n (now (codes .entry)) (now (infos .entry)) (now (order .entry)) ≡ true
+        → FirstAt (writesPoint point) n (now (codes .entry)) (now (infos .entry)) r) ⌝ }
 {
     let m = n as usize;
     if codes.len() < m {
-        return Found::Nothing;
+        return m;
     }
     if infos.len() < m {
-        return Found::Nothing;
+        return m;
     }
     if order.len() < m {
-        return Found::Nothing;
+        return m;
     }
     if 2097152 <= point {
-        return Found::Nothing;
+        return m;
     }
     let at = place_point(&codes[..m], &infos[..m], &order[..m], 0, point);
     if m <= at {
-        return Found::Nothing;
+        return m;
     }
-    let k = order[at] as usize;
-    if m <= k {
-        return Found::Nothing;
-    }
-    let c = codes[k];
-    let i = infos[k];
-    if writes_point(i, point) {
-        return Found::Hit(c, i);
-    }
-    Found::Nothing
+    order[at] as usize
 }
 
-// Whether a place is one of the first n lines.
-fn line_at(codes: &[u32], infos: &[u32], n: u32, at: usize) -> bool
-    ensures { λ r. ⌜ (r ≡ true → LineAt n (now (codes .entry)) (now (infos .entry)) at) ⌝ }
+// Whether a place is one of the first n entries.
+fn entry_at(codes: &[u32], infos: &[u32], n: u32, at: usize) -> bool
+    ensures { λ r. ⌜ r ≡ isAt n (now (codes .entry)) (now (infos .entry)) at ⌝ }
 {
     if (n as usize) <= at {
         return false;
@@ -240,68 +203,32 @@ fn line_at(codes: &[u32], infos: &[u32], n: u32, at: usize) -> bool
     if codes.len() <= at {
         return false;
     }
-    if infos.len() <= at {
-        return false;
-    }
-    true
+    at < infos.len()
 }
 
-// Whether the line at a place reads a code.
-fn reads_at(codes: &[u32], infos: &[u32], n: u32, code: Code, at: usize) -> bool
-    ensures { λ r. ⌜ (r ≡ true → LineAt n (now (codes .entry)) (now (infos .entry)) at
-        × (1 ≤ code .len → readsCode (code .bits) (code .len - 1) (entryAt (now (codes .entry)) (now (infos .entry)) at) ≡ true)) ⌝ }
+// Whether the entry at a place reads a code.
+pub(crate) fn reads_at(codes: &[u32], infos: &[u32], n: u32, code: Code, at: usize) -> bool
+    ensures { λ r. ⌜ r ≡ holdsAt (readsCode (code .bits) (code .len)) n (now (codes .entry)) (now (infos .entry)) at ⌝ }
 {
-    if !line_at(codes, infos, n, at) {
+    if !entry_at(codes, infos, n, at) {
         return false;
     }
     reads_code(codes[at], infos[at], code)
 }
 
-// The same as `find_code`, with one look at a place before the search: a line there that reads the code is the only one.
-// Whatever the place, the answer is the same; it is found sooner where the place is right. Of mappings that do not pass
-// the test behind 60 the contract says nothing.
-pub fn find_code_near(codes: &[u32], infos: &[u32], n: u32, code: Code, at: usize) -> Found
-    ensures { λ r. ⌜ ((order : List ℕ) → storeOk 2048 n (now (codes .entry)) (now (infos .entry)) order ≡ true → 1 ≤ code .len → code .len ≤ 4
-        → r ≡ readOf (code .bits) (code .len - 1) (entries (take n (now (codes .entry))) (take n (now (infos .entry))))) ⌝ }
+// Whether the entry at a place says what becomes of a code point.
+pub(crate) fn writes_at(codes: &[u32], infos: &[u32], n: u32, point: u32, at: usize) -> bool
+    ensures { λ r. ⌜ r ≡ holdsAt (writesPoint point) n (now (codes .entry)) (now (infos .entry)) at ⌝ }
 {
-    if reads_at(codes, infos, n, code, at) {
-        return Found::Hit(codes[at], infos[at]);
-    }
-    find_code(codes, infos, n, code)
-}
-
-// Whether the line at a place says what becomes of a code point.
-fn writes_at(codes: &[u32], infos: &[u32], n: u32, point: u32, at: usize) -> bool
-    ensures { λ r. ⌜ (r ≡ true → LineAt n (now (codes .entry)) (now (infos .entry)) at
-        × (writesPoint point (entryAt (now (codes .entry)) (now (infos .entry)) at) ≡ true)) ⌝ }
-{
-    if !line_at(codes, infos, n, at) {
+    if !entry_at(codes, infos, n, at) {
         return false;
     }
     writes_point(infos[at], point)
 }
 
-// The same as `find_point`, with one look at a place of the first order before the search.
-pub fn find_point_near(
-    codes: &[u32],
-    infos: &[u32],
-    order: &[u32],
-    n: u32,
-    point: u32,
-    at: usize,
-) -> Found
-    ensures { λ r. ⌜ (storeOk 2048 n (now (codes .entry)) (now (infos .entry)) (now (order .entry)) ≡ true
-        → r ≡ writeOf point (entries (take n (now (codes .entry))) (take n (now (infos .entry))))) ⌝ }
-{
-    if writes_at(codes, infos, n, point, at) {
-        return Found::Hit(codes[at], infos[at]);
-    }
-    find_point(codes, infos, order, n, point)
-}
-
 // Some stored line is read and shares the new one's bytes.
 pub(crate) fn read_taken(codes: &[u32], infos: &[u32], n: u32, c: u32, i: u32) -> bool
-    requires { ⌜ (n ≤ 2048) × (n ≤ length (now codes)) × (n ≤ length (now infos)) × Rising less (entries (take n (now codes)) (take n (now infos))) × (extraIn i < 4) ⌝ }
+    requires { ⌜ (n ≤ length (now codes)) × (n ≤ length (now infos)) × Rising less (entries (take n (now codes)) (take n (now infos))) × (extraIn i < 4) ⌝ }
     ensures { λ r. ⌜ r ≡ readTaken (mk c i) (entries (take n (now (codes .entry))) (take n (now (infos .entry)))) ⌝ }
 {
     if 1 < i / 2097152 % 8 {
@@ -311,10 +238,8 @@ pub(crate) fn read_taken(codes: &[u32], infos: &[u32], n: u32, c: u32, i: u32) -
         bits: c,
         len: i / 16777216 + 1,
     };
-    match find_code(codes, infos, n, code) {
-        Found::Hit(_, _) => true,
-        Found::Nothing => false,
-    }
+    let at = code_place(codes, infos, n, code);
+    reads_at(codes, infos, n, code, at)
 }
 
 // Some stored line is written and shares the new one's code point.
@@ -326,16 +251,15 @@ pub(crate) fn write_taken(
     c: u32,
     i: u32,
 ) -> bool
-    requires { ⌜ Kept 2048 n (now codes) (now infos) (now order) ⌝ }
+    requires { ⌜ Kept (limits .mappings) n (now codes) (now infos) (now order) ⌝ }
     ensures { λ r. ⌜ r ≡ writeTaken (mk c i) (entries (take n (now (codes .entry))) (take n (now (infos .entry)))) ⌝ }
 {
     if i / 2097152 % 8 == 1 {
         return false;
     }
-    match find_point(codes, infos, order, n, i % 2097152) {
-        Found::Hit(_, _) => true,
-        Found::Nothing => false,
-    }
+    let point = i % 2097152;
+    let at = point_place(codes, infos, order, n, point);
+    writes_at(codes, infos, n, point, at)
 }
 
 // Puts x in at a place of the first n numbers; those from there on move up by one, the last into a free place.
@@ -356,7 +280,7 @@ fn shift_in(xs: &mut [u32], n: usize, at: usize, x: u32)
 
 // An index after an insertion at a place: one more at or past it.
 fn bump_index(at: u32, v: u32) -> u32
-    requires { ⌜ v < 4096 ⌝ }
+    requires { ⌜ v < 4294967295 ⌝ }
     ensures { λ r. ⌜ r ≡ bump at v ⌝ }
 {
     if at <= v { v + 1 } else { v }
@@ -365,7 +289,7 @@ fn bump_index(at: u32, v: u32) -> u32
 // Adds one to every index at or past a place, without a branch, so that many can be done at once; nothing to do where
 // the place is behind all.
 fn renumber(order: &mut [u32], n: usize, at: usize)
-    requires { ⌜ (n ≤ length (now order)) × (n < 4096) × All (λ k. k < n) (take n (now order)) ⌝ }
+    requires { ⌜ (n ≤ length (now order)) × (n < 4294967296) × All (λ k. k < n) (take n (now order)) ⌝ }
     ensures { λ _. ⌜ now (order .exit) ≡ map (bump at) (take n (now (order .entry))) ++ drop n (now (order .entry)) ⌝ }
 {
     if n <= at {

@@ -14,7 +14,8 @@ ghost use Rattle.table.specs.Limits.{limits};
 ghost use Rattle.table.specs.States.{stepAt, endKind};
 ghost use Rattle.table.specs.Codes.{bytesOf};
 ghost use Rattle.table.specs.Rules.{allOf, t4Sub, t4Sub1, t5Kind, t6, t7, t8};
-ghost use Rattle.table.specs.Entry.{mk, lineIn, padded, entryOk, keyIn, readNext, writeNext};
+ghost use Rattle.table.specs.Entry.{mk, lineIn, padded, isRank, entryOk, keyIn, readNext, writeNext};
+ghost use Rattle.table.specs.Slices.{slices};
 ghost use Rattle.table.specs.Memory.{entries, sub1In};
 ghost use Rattle.table.specs.Common.{CommonCode};
 ghost use Rattle.table.specs.Valid.{ordered, recordOk, lineOk, storeOk, valid};
@@ -100,11 +101,21 @@ pub fn is_padded(len: u32, bits: u32) -> bool
     len == 4
 }
 
+// The rank of a line: 3 and those from 5 up are none.
+fn is_rank(rank: u32) -> bool
+    ensures { λ r. ⌜ r ≡ isRank rank ⌝ }
+{
+    if rank <= 2 {
+        return true;
+    }
+    rank == 4
+}
+
 // Whether the two numbers of a stored mapping are those of a line.
 fn entry_ok(bits: u32, info: u32) -> bool
     ensures { λ r. ⌜ r ≡ entryOk (mk bits info) ⌝ }
 {
-    if 3 < info / 2097152 % 8 {
+    if !is_rank(info / 2097152 % 8) {
         return false;
     }
     is_padded(info / 16777216 + 1, bits)
@@ -150,7 +161,7 @@ fn keeps_t7_t8(sub1: u32, bits: u32, info: u32) -> bool
 {
     let rank = info / 2097152 % 8;
     let extra = info / 16777216;
-    if rank == 3 {
+    if rank == 4 {
         if sub1 == 0 {
             return false;
         }
@@ -262,7 +273,7 @@ fn rules_ok(steps: &[u16], rec: Record, bits: u32, info: u32) -> bool
     if !keeps_t7_t8(rec.subchar1, bits, info) {
         return false;
     }
-    if info / 2097152 % 8 == 3 {
+    if info / 2097152 % 8 == 4 {
         return true;
     }
     let code = Code {
@@ -346,8 +357,8 @@ fn order_ok(codes: &[u32], infos: &[u32], order: &[u32]) -> bool
 
 // The mapping slices: long enough, every mapping and its order right, zeros behind the last.
 fn mappings_ok(steps: &[u16], rec: Record, codes: &[u32], infos: &[u32], order: &[u32]) -> bool
-    requires { ⌜ rec .mappings ≤ 2048 ⌝ }
-    ensures { λ r. ⌜ r ≡ pick (storeOk 2048 (rec .mappings) (now (codes .entry)) (now (infos .entry)) (now (order .entry)))
+    requires { ⌜ rec .mappings ≤ limits .mappings ⌝ }
+    ensures { λ r. ⌜ r ≡ pick (storeOk (limits .mappings) (rec .mappings) (now (codes .entry)) (now (infos .entry)) (now (order .entry)))
         (allOf (lineOk (stepAt (now (steps .entry))) rec) (entries (take (rec .mappings) (now (codes .entry))) (take (rec .mappings) (now (infos .entry))))) false ⌝ }
 {
     let n = rec.mappings as usize;
@@ -437,7 +448,7 @@ pub fn memory_valid(
     infos: &[u32],
     order: &[u32],
 ) -> bool
-    ensures { λ r. ⌜ r ≡ valid limits rec (now (states .entry)) (now (codes .entry)) (now (infos .entry)) (now (order .entry)) ⌝ }
+    ensures { λ r. ⌜ r ≡ valid limits rec (slices (now (states .entry)) (now (codes .entry)) (now (infos .entry)) (now (order .entry))) ⌝ }
 {
     if !record_ok(rec) {
         return false;

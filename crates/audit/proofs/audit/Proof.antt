@@ -8,15 +8,15 @@ use borrow.Author.Tests.{not-true, not-false}
 use borrow.Author.Needs.{needs}
 use denote.Ref.{now}
 use Rattle.lists.specs.Paging.{pageFrom}
-use Rattle.lists.proofs.AllPlaces.{all-places}
 use Rattle.table.specs.Limits.{limits}
 use Rattle.table.specs.Codes.{bytesOf}
 use Rattle.table.specs.Memory.{tableIn}
 use Rattle.table.specs.States.{stepAt}
+use Rattle.table.specs.Slices.{slices}
+use Rattle.table.specs.Valid.{valid}
 use Rattle.audit.specs.declared.Ending.the-variants.{BadPosition, BadTable}
 use Rattle.audit.specs.Audit.{Answer, refused, looked, auditTested, listing}
 use Rattle.audit.proofs.Tests.{position-packed, audit-invalid, audit-misplaced, audit-placed, answer-same}
-use Rattle.audit.proofs.ValidMemory.{Sound}
 use Rattle.audit.proofs.audit.Statement.{statement}
 use Rattle.audit.proofs.audit.Tie as tie
 
@@ -26,13 +26,9 @@ TestedAt = tie.After-memory-valid
 abbrev startAt : TestedAt → tie.Start
 startAt k = k .before .before .before .before .before .before
 
--- the slices' numbers are of 32 bits
-sound : (k : TestedAt) → k .memory-valid .result ≡ true → Sound (startAt k .args .rec) (now (startAt k .args .states)) (now (startAt k .args .codes)) (now (startAt k .args .infos)) (now (startAt k .args .order))
-sound k e = record {
-  passes = sym (k .memory-valid .ensures) ∙ e;
-  small = all-places (λ x. x < 4294967296) (now (startAt k .args .codes)) 0 (λ i. omega (arith, k .before .before .before .before .shared-slice-known2 .given i));
-  sub-small = omega (arith, startAt k .good .0);
-}
+passes : (k : TestedAt) → k .memory-valid .result ≡ true
+    → valid limits (startAt k .args .rec) (slices (now (startAt k .args .states)) (now (startAt k .args .codes)) (now (startAt k .args .infos)) (now (startAt k .args .order))) ≡ true
+passes k e = sym (k .memory-valid .ensures) ∙ e
 
 fits : (k : TestedAt) → startAt k .args .position .bits < 4294967296
 fits k = omega (arith, startAt k .good .1 .1 .1 .1 .1 .1 .0)
@@ -40,7 +36,7 @@ fits k = omega (arith, startAt k .good .1 .1 .1 .1 .1 .1 .0)
 abbrev answerAt : TestedAt → Answer
 answerAt k =
     let a = startAt k .args in
-    auditTested limits (a .rec) (now (a .states)) (now (a .codes)) (now (a .infos)) (now (a .order)) (a .fallback) (a .position) (a .allowance) (length (now (a .entries)))
+    auditTested limits (a .rec) (slices (now (a .states)) (now (a .codes)) (now (a .infos)) (now (a .order))) (a .fallback) (a .position) (a .allowance) (length (now (a .entries)))
 
 memory-valid-requires : tie.Need-memory-valid-requires
 memory-valid-requires c κs = search needs
@@ -52,7 +48,7 @@ returns : tie.Need-returns
 returns c =
     let k = c .before .before in
     let a = startAt k .args in
-    answer-same (answerAt k) (refused BadTable (a .position)) (audit-invalid (a .rec) (now (a .states)) (now (a .codes)) (now (a .infos)) (now (a .order)) (a .fallback) (a .position) (a .allowance) (length (now (a .entries))) (sym (k .memory-valid .ensures) ∙ not-true _ (c .before .if1 .taken))) (c .refusal .result) (now (a .entries)) (now (a .entries)) (c .refusal .ensures, refl)
+    answer-same (answerAt k) (refused BadTable (a .position)) (audit-invalid (a .rec) (slices (now (a .states)) (now (a .codes)) (now (a .infos)) (now (a .order))) (a .fallback) (a .position) (a .allowance) (length (now (a .entries))) (sym (k .memory-valid .ensures) ∙ not-true _ (c .before .if1 .taken))) (c .refusal .result) (now (a .entries)) (now (a .entries)) (c .refusal .ensures, refl)
 
 is-position-requires : tie.Need-is-position-requires
 is-position-requires c κs = search needs
@@ -64,13 +60,13 @@ returns-2 : tie.Need-returns-2
 returns-2 c =
     let k = c .before .before .before .before in
     let a = startAt k .args in
-    answer-same (answerAt k) (refused BadPosition (a .position)) (audit-misplaced (a .rec) (now (a .states)) (now (a .codes)) (now (a .infos)) (now (a .order)) (a .fallback) (a .position) (a .allowance) (length (now (a .entries))) (sound k (not-false _ (c .before .before .before .if1 .left))) (fits k) (sym (c .before .before .is-position .ensures) ∙ not-true _ (c .before .if2 .taken))) (c .refusal2 .result) (now (a .entries)) (now (a .entries)) (c .refusal2 .ensures, refl)
+    answer-same (answerAt k) (refused BadPosition (a .position)) (audit-misplaced (a .rec) (slices (now (a .states)) (now (a .codes)) (now (a .infos)) (now (a .order))) (a .fallback) (a .position) (a .allowance) (length (now (a .entries))) (passes k (not-false _ (c .before .before .before .if1 .left))) (fits k) (sym (c .before .before .is-position .ensures) ∙ not-true _ (c .before .if2 .taken))) (c .refusal2 .result) (now (a .entries)) (now (a .entries)) (c .refusal2 .ensures, refl)
 
 walk-requires : tie.Need-walk-requires
 walk-requires c κs =
     let k = c .before .before .before .before in
     let a = startAt k .args in
-    (sound k (not-false _ (c .before .before .before .if1 .left)) .passes, position-packed (stepAt (now (a .states))) (a .position) (sym (c .before .before .is-position .ensures) ∙ not-false _ (c .before .if2 .left)))
+    (passes k (not-false _ (c .before .before .before .if1 .left)), position-packed (stepAt (now (a .states))) (a .position) (sym (c .before .before .is-position .ensures) ∙ not-false _ (c .before .if2 .left)))
 
 same-length : tie.Need-same-length
 same-length c = search needs
@@ -79,7 +75,7 @@ returns-3 : tie.Need-returns-3
 returns-3 c =
     let k = c .before .before .before .before .before .before .before in
     let a = startAt k .args in
-    answer-same (answerAt k) (looked (pageFrom (listing (tableIn (a .rec) (now (a .states)) (now (a .codes)) (now (a .infos))) (a .fallback)) (a .allowance) (length (now (a .entries))) (bytesOf (a .position)))) (audit-placed (a .rec) (now (a .states)) (now (a .codes)) (now (a .infos)) (now (a .order)) (a .fallback) (a .position) (a .allowance) (length (now (a .entries))) (sound k (not-false _ (c .before .before .before .before .before .before .if1 .left))) (fits k) (sym (c .before .before .before .before .before .is-position .ensures) ∙ not-false _ (c .before .before .before .before .if2 .left))) (c .before .before .walk .result) (now (a .entries)) _ (c .before .before .walk .ensures)
+    answer-same (answerAt k) (looked (pageFrom (listing (tableIn (a .rec) (slices (now (a .states)) (now (a .codes)) (now (a .infos)) (now (a .order)))) (a .fallback)) (a .allowance) (length (now (a .entries))) (bytesOf (a .position)))) (audit-placed (a .rec) (slices (now (a .states)) (now (a .codes)) (now (a .infos)) (now (a .order))) (a .fallback) (a .position) (a .allowance) (length (now (a .entries))) (passes k (not-false _ (c .before .before .before .before .before .before .if1 .left))) (fits k) (sym (c .before .before .before .before .before .is-position .ensures) ∙ not-false _ (c .before .before .before .before .if2 .left))) (c .before .before .walk .result) (now (a .entries)) _ (c .before .before .walk .ensures)
 
 pub audit-spec : {M : Type 1} → statement M
 audit-spec =

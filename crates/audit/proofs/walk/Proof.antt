@@ -3,28 +3,35 @@ use Prim.Native.Nat.{ℕ, _-_, _<_}
 use native.Mathlib.Omega.{arith}
 use mathlib.Core.Bool.{true}
 use mathlib.Core.List.{List}
-use mathlib.Core.Path.{_≡_, _∙_, sym}
+use mathlib.Core.Path.{_≡_, _∙_, sym, ap}
+use lib.Dec.{lit<}
 use lib.ListN.{length}
 use borrow.Author.Needs.{needs}
 use denote.Ref.{now}
 use Rattle.lists.specs.Paging.{Listing}
-use Rattle.lists.proofs.AllPlaces.{all-places}
 use Rattle.lists.proofs.PageLoop.{Standing, standing-start, standing-length, standing-room}
+use Rattle.table.specs.Limits.{limits}
+use Rattle.table.specs.States.{stepAt}
+use Rattle.table.specs.Marks.{nextMarked}
 use Rattle.table.specs.Meaning.{Table, stepsOf}
 use Rattle.table.specs.Entry.{padded}
 use Rattle.table.specs.declared.states.Code.{Code}
 use Rattle.table.specs.declared.codes.Next.the-variants.{Found}
 use Rattle.table.specs.Codes.{codeOf, bytesOf, nextOf}
+use Rattle.table.specs.Slices.{slices}
 use Rattle.table.specs.Memory.{tableIn}
+use Rattle.table.specs.Valid.{valid}
+use Rattle.table.proofs.Cuts.{no-ends-zero}
+use Rattle.table.proofs.Between.{next-packed, next-padded}
+use Rattle.table.proofs.HeldMemory.{next-is-next}
 use Rattle.audit.specs.Audit.{Finding, listing, entryNumber}
-use Rattle.audit.proofs.ValidMemory.{Sound, next-held, next-whole, next-padded}
 use Rattle.audit.proofs.Steps.{ends-over, ends-spent, step-passed, step-listed, ends-full}
 use Rattle.audit.proofs.walk.Statement.{statement}
 use Rattle.audit.proofs.walk.Tie as tie
 
 abbrev Inv-loop : tie.InvT-loop
 Inv-loop rec states codes infos order fallback allowance entries₀ marks at₀ written₀ count₀ entries at written count =
-    (at ≡ codeOf (bytesOf at)) × Standing (listing (tableIn rec states codes infos) fallback) entryNumber allowance (bytesOf at₀) (bytesOf at) written count entries₀ entries
+    (at ≡ codeOf (bytesOf at)) × Standing (listing (tableIn rec (slices states codes infos order)) fallback) entryNumber allowance (bytesOf at₀) (bytesOf at) written count entries₀ entries
 
 abbrev μ-loop : tie.MeasureT-loop
 μ-loop rec states codes infos order fallback allowance entries₀ marks at₀ written₀ count₀ entries at written count =
@@ -36,16 +43,12 @@ LoopAt = tie.At-loop Inv-loop μ-loop
 abbrev startAt : LoopAt → tie.Start Inv-loop μ-loop
 startAt l = l .before .before .before .before .before .before .before
 
--- the slices' numbers are of 32 bits
-sound : (l : LoopAt) → Sound (startAt l .args .rec) (now (startAt l .args .states)) (now (startAt l .args .codes)) (now (startAt l .args .infos)) (now (startAt l .args .order))
-sound l = record {
-  passes = startAt l .pre .0;
-  small = all-places (λ x. x < 4294967296) (now (startAt l .args .codes)) 0 (λ i. omega (arith, l .before .before .before .before .before .shared-slice-known2 .given i));
-  sub-small = omega (arith, startAt l .good .0);
-}
+passes : (l : LoopAt)
+    → valid limits (startAt l .args .rec) (slices (now (startAt l .args .states)) (now (startAt l .args .codes)) (now (startAt l .args .infos)) (now (startAt l .args .order))) ≡ true
+passes l = startAt l .pre .0
 
 abbrev tableAt : LoopAt → Table
-tableAt l = tableIn (startAt l .args .rec) (now (startAt l .args .states)) (now (startAt l .args .codes)) (now (startAt l .args .infos))
+tableAt l = tableIn (startAt l .args .rec) (slices (now (startAt l .args .states)) (now (startAt l .args .codes)) (now (startAt l .args .infos)) (now (startAt l .args .order)))
 
 abbrev listingAt : LoopAt → Listing (List ℕ) Finding (List ℕ)
 listingAt l = listing (tableAt l) (startAt l .args .fallback)
@@ -70,20 +73,17 @@ next-code-is : (k : FoundAt) → nextOf (stepsOf (tableAt (loopOf k))) 0 (bytesO
 next-code-is k =
     let l = loopOf k in
     let a = startAt l .args in
-    sym (next-held (a .rec) (now (a .states)) (now (a .codes)) (now (a .infos)) (now (a .order)) (sound l) (l .before .mark-rows .result) (l .before .mark-rows .ensures) (bytesOf (l .loop .at)))
+    sym (next-is-next (a .rec) (slices (now (a .states)) (now (a .codes)) (now (a .infos)) (now (a .order))) (passes l) 0 (lit< tt) (bytesOf (l .loop .at)))
+    ∙ ap (λ (marks : List ℕ). nextMarked marks (stepAt (now (a .states))) 0 (bytesOf (l .loop .at))) (sym (l .before .mark-rows .ensures))
     ∙ sym (k .before .before .before .next-code .ensures) ∙ k .before .code .given .1
 
 whole : (k : FoundAt) → codeAt k ≡ codeOf (bytesOf (codeAt k))
-whole k =
-    let l = loopOf k in
-    let a = startAt l .args in
-    next-whole (a .rec) (now (a .states)) (now (a .codes)) (now (a .infos)) (now (a .order)) (sound l) (bytesOf (l .loop .at)) (codeAt k) (next-code-is k)
+whole k = next-packed (stepsOf (tableAt (loopOf k))) 0 (bytesOf (loopOf k .loop .at)) (codeAt k) (next-code-is k)
 
 has-zeros : (k : FoundAt) → padded (codeAt k .len) (codeAt k .bits) ≡ true
 has-zeros k =
-    let l = loopOf k in
-    let a = startAt l .args in
-    next-padded (a .rec) (now (a .states)) (now (a .codes)) (now (a .infos)) (now (a .order)) (sound l) (bytesOf (l .loop .at)) (codeAt k) (next-code-is k)
+    let t = tableAt (loopOf k) in
+    next-padded (stepsOf t) 0 (no-ends-zero (t .rows)) (bytesOf (loopOf k .loop .at)) (codeAt k) (next-code-is k)
 
 mark-rows-requires : tie.Need-mark-rows-requires Inv-loop μ-loop
 mark-rows-requires c κs = search needs
@@ -92,7 +92,7 @@ loop-holds : tie.Need-loop-holds Inv-loop μ-loop
 loop-holds c =
     let s = c .before .before .before .before .before .before in
     let a = s .args in
-    (s .pre .1, standing-start (listing (tableIn (a .rec) (now (a .states)) (now (a .codes)) (now (a .infos))) (a .fallback)) entryNumber (a .allowance) (bytesOf (a .position)) (now (a .entries)))
+    (s .pre .1, standing-start (listing (tableIn (a .rec) (slices (now (a .states)) (now (a .codes)) (now (a .infos)) (now (a .order)))) (a .fallback)) entryNumber (a .allowance) (bytesOf (a .position)) (now (a .entries)))
 
 slice-aggregate-next-code : tie.Need-slice-aggregate-next-code Inv-loop μ-loop
 slice-aggregate-next-code c = search needs
@@ -116,7 +116,7 @@ returns : tie.Need-returns Inv-loop μ-loop
 returns c =
     let l = c .before .before .before .before .before .before in
     let a = startAt l .args in
-    ends-over (a .rec) (now (a .states)) (now (a .codes)) (now (a .infos)) (now (a .order)) (sound l) (a .fallback) (l .before .mark-rows .result) (l .before .mark-rows .ensures) (a .allowance) (a .position) (now (a .entries)) (l .loop .at) (l .loop .written) (l .loop .count) (l .loop .entries) (l .loop .inv .1) (c .before .before .before .next-code .result) (c .before .before .before .next-code .ensures) (c .before .before .before .before .before .loop-test .taken) (c .before .enum-told .given .1) (l .loop .inv .0) (c .handed-back .result) (c .handed-back .ensures)
+    ends-over (a .rec) (slices (now (a .states)) (now (a .codes)) (now (a .infos)) (now (a .order))) (passes l) (a .fallback) (l .before .mark-rows .result) (l .before .mark-rows .ensures) (a .allowance) (a .position) (now (a .entries)) (l .loop .at) (l .loop .written) (l .loop .count) (l .loop .entries) (l .loop .inv .1) (c .before .before .before .next-code .result) (c .before .before .before .next-code .ensures) (c .before .before .before .before .before .loop-test .taken) (c .before .enum-told .given .1) (l .loop .inv .0) (c .handed-back .result) (c .handed-back .ensures)
 
 cause-requires : tie.Need-cause-requires Inv-loop μ-loop
 cause-requires c κs = (c .before .before .before .before .before .before .before .before .before .before .before .before .before .pre .0, has-zeros c)
@@ -131,7 +131,7 @@ loop-again : tie.Need-loop-again Inv-loop μ-loop
 loop-again c =
     let l = c .before .before .before .before .before .before .before .before in
     let a = startAt l .args in
-    (whole (c .before .before), step-passed (a .rec) (now (a .states)) (now (a .codes)) (now (a .infos)) (now (a .order)) (sound l) (a .fallback) (l .before .mark-rows .result) (l .before .mark-rows .ensures) (a .allowance) (a .position) (now (a .entries)) (l .loop .at) (l .loop .written) (l .loop .count) (l .loop .entries) (l .loop .inv .1) (c .before .before .before .before .before .next-code .result) (c .before .before .before .before .before .next-code .ensures) (c .before .before .before .before .before .before .before .loop-test .taken) (c .before .before .before .code .given .0 .0) (c .before .before .before .code .given .1) (c .before .cause .result) (c .before .cause .ensures) (c .if1 .taken))
+    (whole (c .before .before), step-passed (a .rec) (slices (now (a .states)) (now (a .codes)) (now (a .infos)) (now (a .order))) (passes l) (a .fallback) (l .before .mark-rows .result) (l .before .mark-rows .ensures) (a .allowance) (a .position) (now (a .entries)) (l .loop .at) (l .loop .written) (l .loop .count) (l .loop .entries) (l .loop .inv .1) (c .before .before .before .before .before .next-code .result) (c .before .before .before .before .before .next-code .ensures) (c .before .before .before .before .before .before .before .loop-test .taken) (c .before .before .before .code .given .0 .0) (c .before .before .before .code .given .1) (c .before .cause .result) (c .before .cause .ensures) (c .if1 .taken))
 
 handed-back-requires-2 : tie.Need-handed-back-requires-2 Inv-loop μ-loop
 handed-back-requires-2 c κs = search needs
@@ -143,7 +143,7 @@ returns-2 : tie.Need-returns-2 Inv-loop μ-loop
 returns-2 c =
     let l = c .before .before .before .before .before .before .before .before .before .before in
     let a = startAt l .args in
-    ends-full (a .rec) (now (a .states)) (now (a .codes)) (now (a .infos)) (now (a .order)) (sound l) (a .fallback) (l .before .mark-rows .result) (l .before .mark-rows .ensures) (a .allowance) (a .position) (now (a .entries)) (l .loop .at) (l .loop .written) (l .loop .count) (l .loop .entries) (l .loop .inv .1) (c .before .before .before .before .before .before .before .next-code .result) (c .before .before .before .before .before .before .before .next-code .ensures) (c .before .before .before .before .before .before .before .before .before .loop-test .taken) (c .before .before .before .before .before .code .given .0 .0) (c .before .before .before .before .before .code .given .1) (c .before .before .before .cause .result) (c .before .before .before .cause .ensures) (c .before .before .if1 .left) (c .before .if2 .taken) (l .loop .inv .0) (c .handed-back2 .result) (c .handed-back2 .ensures)
+    ends-full (a .rec) (slices (now (a .states)) (now (a .codes)) (now (a .infos)) (now (a .order))) (passes l) (a .fallback) (l .before .mark-rows .result) (l .before .mark-rows .ensures) (a .allowance) (a .position) (now (a .entries)) (l .loop .at) (l .loop .written) (l .loop .count) (l .loop .entries) (l .loop .inv .1) (c .before .before .before .before .before .before .before .next-code .result) (c .before .before .before .before .before .before .before .next-code .ensures) (c .before .before .before .before .before .before .before .before .before .loop-test .taken) (c .before .before .before .before .before .code .given .0 .0) (c .before .before .before .before .before .code .given .1) (c .before .before .before .cause .result) (c .before .before .before .cause .ensures) (c .before .before .if1 .left) (c .before .if2 .taken) (l .loop .inv .0) (c .handed-back2 .result) (c .handed-back2 .ensures)
 
 entry-number-requires : tie.Need-entry-number-requires Inv-loop μ-loop
 entry-number-requires c κs = has-zeros (c .before .before .before)
@@ -171,7 +171,7 @@ loop-again-2 : tie.Need-loop-again-2 Inv-loop μ-loop
 loop-again-2 c =
     let l = c .before .before .before .before .before .before .before .before .before .before in
     let a = startAt l .args in
-    (whole (c .before .before .before .before), step-listed (a .rec) (now (a .states)) (now (a .codes)) (now (a .infos)) (now (a .order)) (sound l) (a .fallback) (l .before .mark-rows .result) (l .before .mark-rows .ensures) (a .allowance) (a .position) (now (a .entries)) (l .loop .at) (l .loop .written) (l .loop .count) (l .loop .entries) (l .loop .inv .1) (c .before .before .before .before .before .before .before .next-code .result) (c .before .before .before .before .before .before .before .next-code .ensures) (c .before .before .before .before .before .before .before .before .before .loop-test .taken) (c .before .before .before .before .before .code .given .0 .0) (c .before .before .before .before .before .code .given .1) (c .before .before .before .cause .result) (c .before .before .before .cause .ensures) (c .before .before .if1 .left) (room-left l (c .before .if2 .left)) (c .entry-number .result) (c .entry-number .ensures))
+    (whole (c .before .before .before .before), step-listed (a .rec) (slices (now (a .states)) (now (a .codes)) (now (a .infos)) (now (a .order))) (passes l) (a .fallback) (l .before .mark-rows .result) (l .before .mark-rows .ensures) (a .allowance) (a .position) (now (a .entries)) (l .loop .at) (l .loop .written) (l .loop .count) (l .loop .entries) (l .loop .inv .1) (c .before .before .before .before .before .before .before .next-code .result) (c .before .before .before .before .before .before .before .next-code .ensures) (c .before .before .before .before .before .before .before .before .before .loop-test .taken) (c .before .before .before .before .before .code .given .0 .0) (c .before .before .before .before .before .code .given .1) (c .before .before .before .cause .result) (c .before .before .before .cause .ensures) (c .before .before .if1 .left) (room-left l (c .before .if2 .left)) (c .entry-number .result) (c .entry-number .ensures))
 
 slice-aggregate-next-code-2 : tie.Need-slice-aggregate-next-code-2 Inv-loop μ-loop
 slice-aggregate-next-code-2 c = search needs
@@ -192,7 +192,7 @@ returns-3 : tie.Need-returns-3 Inv-loop μ-loop
 returns-3 c =
     let l = c .before .before .before .before .before in
     let a = startAt l .args in
-    ends-spent (a .rec) (now (a .states)) (now (a .codes)) (now (a .infos)) (now (a .order)) (sound l) (a .fallback) (l .before .mark-rows .result) (l .before .mark-rows .ensures) (a .allowance) (a .position) (now (a .entries)) (l .loop .at) (l .loop .written) (l .loop .count) (l .loop .entries) (l .loop .inv .1) (c .before .before .next-code2 .result) (c .before .before .next-code2 .ensures) (c .before .before .before .before .loop-test .left) (c .before .is-last .result) (c .before .is-last .ensures) (l .loop .inv .0) (c .handed-back3 .result) (c .handed-back3 .ensures)
+    ends-spent (a .rec) (slices (now (a .states)) (now (a .codes)) (now (a .infos)) (now (a .order))) (passes l) (a .fallback) (l .before .mark-rows .result) (l .before .mark-rows .ensures) (a .allowance) (a .position) (now (a .entries)) (l .loop .at) (l .loop .written) (l .loop .count) (l .loop .entries) (l .loop .inv .1) (c .before .before .next-code2 .result) (c .before .before .next-code2 .ensures) (c .before .before .before .before .loop-test .left) (c .before .is-last .result) (c .before .is-last .ensures) (l .loop .inv .0) (c .handed-back3 .result) (c .handed-back3 .ensures)
 
 pub walk-spec : {M : Type 1} → statement M
 walk-spec =

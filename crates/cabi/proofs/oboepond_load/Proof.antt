@@ -1,7 +1,6 @@
 use mathlib.Core.Path.{sym, ap, _∙_}
 use borrow.Author.Needs.{needs}
 use Rattle.table.specs.declared.load.Loaded.{Loaded}
-use Rattle.table.specs.Numbers.{answerNumber}
 use Rattle.cabi.specs.Exported.{loadedNumbers, withNumbers}
 use Rattle.cabi.proofs.Lengths.{fewer, enough}
 use Rattle.cabi.proofs.oboepond_load.Statement.{statement}
@@ -10,9 +9,6 @@ use Rattle.cabi.proofs.oboepond_load.Tie as tie
 returns : tie.Need-returns
 returns c =
     let p = c .if1 .taken in (
-      sym (fewer 8 _ _ _ p),
-      sym (fewer 8 _ _ _ p),
-      sym (fewer 8 _ _ _ p),
       sym (fewer 8 _ _ _ p),
       sym (fewer 8 _ _ _ p),
       sym (fewer 8 _ _ _ p),
@@ -43,11 +39,8 @@ returns-2 : tie.Need-returns-2
 returns-2 c =
     let p = c .before .before .before .before .before .before .before .before .before .before .before .before .before .before .before .before .before .if1 .left in
     let l = c .before .before .before .before .before .before .before .before .before .before .before .before .load .ensures in (
-      c .before .before .put-loaded .ensures .0 ∙ ap (λ (x : Loaded). answerNumber (x .answer)) (l .0) ∙ sym (enough 8 _ _ _ p),
-      l .1 ∙ sym (enough 8 _ _ _ p),
+      c .before .before .put-loaded .ensures .0 ∙ l .1 ∙ sym (enough 8 _ _ _ p),
       l .2 ∙ sym (enough 8 _ _ _ p),
-      l .3 ∙ sym (enough 8 _ _ _ p),
-      l .4 ∙ sym (enough 8 _ _ _ p),
       c .before .before .put-loaded .ensures .1 ∙ ap (λ (x : Loaded). withNumbers (loadedNumbers x) (c .before .before .before .before .before .before .before .before .before .before .before .before .before .before .before .before .before .before .before .before .before .before .before .before .args .result .now)) (l .0) ∙ sym (enough 8 _ _ _ p),
     )
 

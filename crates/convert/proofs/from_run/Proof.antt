@@ -7,6 +7,7 @@ use native.Mathlib.Omega.{arith}
 use borrow.Author.Tests.{not-true, not-false}
 use lib.ListN.{length, drop}
 use Rattle.table.specs.Codes.{unpacked}
+use Rattle.table.specs.Slices.{slices}
 use Rattle.table.specs.Memory.{tableIn}
 use Rattle.table.proofs.Packing.{length-unpacked}
 use Rattle.convert.specs.Run.{Step, Sound}
@@ -21,20 +22,20 @@ use Rattle.convert.proofs.from_run.Statement.{statement}
 use Rattle.convert.proofs.from_run.Tie as tie
 
 abbrev Inv-loop : tie.InvT-loop
-Inv-loop rec states codes infos order hints input out₀ fallback substitute at₀ w₀ out at w = Going (fromStep utf8 (tableIn rec states codes infos) fallback substitute) 0 input out₀ out 0 at w
+Inv-loop rec states codes infos order hints input out₀ settings at₀ w₀ out at w = Going (fromStep utf8 (tableIn rec (slices states codes infos order)) settings) 0 input out₀ out 0 at w
 
 abbrev μ-loop : tie.MeasureT-loop
-μ-loop rec states codes infos order hints input out₀ fallback substitute at₀ w₀ out at w = length input - at
+μ-loop rec states codes infos order hints input out₀ settings at₀ w₀ out at w = length input - at
 
 -- the step and the rest of the input at a turn
 abbrev stepAt : tie.After-from-step Inv-loop μ-loop → Step
-stepAt d = let a = d .before .before .before .before .before .before .before .before .before .before .before .args in fromStep utf8 (tableIn (a .rec) (a .states .now) (a .codes .now) (a .infos .now)) (a .fallback) (a .substitute)
+stepAt d = let a = d .before .before .before .before .before .before .before .before .before .before .before .args in fromStep utf8 (tableIn (a .rec) (slices (a .states .now) (a .codes .now) (a .infos .now) (a .order .now))) (a .settings)
 
 abbrev restAt : tie.After-from-step Inv-loop μ-loop → List ℕ
 restAt d = drop (d .before .before .before .loop .at) (d .before .before .before .before .before .before .before .before .before .before .before .args .input .now)
 
 soundAt : (d : tie.After-from-step Inv-loop μ-loop) → Sound (stepAt d)
-soundAt d = let a = d .before .before .before .before .before .before .before .before .before .before .before .args in from-sound utf8 utf8-lawful (tableIn (a .rec) (a .states .now) (a .codes .now) (a .infos .now)) (a .fallback) (a .substitute)
+soundAt d = let a = d .before .before .before .before .before .before .before .before .before .before .before .args in from-sound utf8 utf8-lawful (tableIn (a .rec) (slices (a .states .now) (a .codes .now) (a .infos .now) (a .order .now))) (a .settings)
 
 -- what the rest gives
 gaveAt : (d : tie.After-from-step Inv-loop μ-loop) (x : Sent) → d .from-step .result ≡ x → stepAt d 0 (restAt d) ≡ sentOf x
@@ -59,7 +60,7 @@ nextAt c =
 loop-holds : tie.Need-loop-holds Inv-loop μ-loop
 loop-holds c =
     let a = c .before .before .before .before .before .before .before .args in
-    begin (fromStep utf8 (tableIn (a .rec) (a .states .now) (a .codes .now) (a .infos .now)) (a .fallback) (a .substitute)) 0 (a .input .now) (a .out .now)
+    begin (fromStep utf8 (tableIn (a .rec) (slices (a .states .now) (a .codes .now) (a .infos .now) (a .order .now))) (a .settings)) 0 (a .input .now) (a .out .now)
 
 sub-from-step : tie.Need-sub-from-step Inv-loop μ-loop
 sub-from-step c = omega arith

@@ -1,7 +1,9 @@
 -- `to_hinted` meets its contract: `to_run` promises the same with any hints. A valid table's lines lie within `codes`.
 use mathlib.Core.Path.{sym}
 use lib.Seq.{length-take-le}
-use Rattle.convert.proofs.LookUps.{lines-within}
+use Rattle.table.specs.Limits.{limits}
+use Rattle.table.specs.Slices.{slices}
+use Rattle.table.proofs.HeldMemory.{lines-within}
 use borrow.Author.Needs.{needs}
 use Rattle.convert.proofs.to_hinted.Statement.{statement}
 use Rattle.convert.proofs.to_hinted.Tie as tie
@@ -27,7 +29,7 @@ cast-n c = search needs
 slice-aggregate-fill : tie.Need-slice-aggregate-fill
 slice-aggregate-fill c =
     let a = c .before .before .before .before .before .before .before .before .before .args in
-    sym (length-take-le (a .rec .mappings) (a .codes .now) (lines-within (a .rec) (a .states .now) (a .codes .now) (a .infos .now) (a .order .now) (c .before .before .before .before .before .before .before .before .before .pre) .0))
+    sym (length-take-le (a .rec .mappings) (a .codes .now) (lines-within limits (a .rec) (slices (a .states .now) (a .codes .now) (a .infos .now) (a .order .now)) (c .before .before .before .before .before .before .before .before .before .pre) .0))
 
 slice-aggregate-fill-2 : tie.Need-slice-aggregate-fill-2
 slice-aggregate-fill-2 c = search needs

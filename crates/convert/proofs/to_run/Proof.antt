@@ -11,50 +11,53 @@ use Rattle.unicode.specs.Utf8.{Scalar, encodeOf}
 use Rattle.unicode.specs.declared.utf8.Sequence.{Sequence}
 use Rattle.unicode.specs.declared.utf8.Sequence.the-variants as sequence
 use Rattle.unicode.proofs.Puts.{put-done, put-full, put-refused}
+use Rattle.table.specs.Limits.{limits}
 use Rattle.table.specs.Meaning.{Table}
+use Rattle.table.specs.Slices.{slices}
 use Rattle.table.specs.Memory.{tableIn}
+use Rattle.table.proofs.ValidLaws.{valid-table}
 use Rattle.convert.specs.Run.{Step}
 use Rattle.convert.specs.Step.{utf8, toSequence, encoded, toStep}
 use Rattle.convert.proofs.Runs.{Going, begin, turn, ends-all, ends-stop, ends-full, rest-is}
 use Rattle.convert.proofs.Steps.{to-sound, to-scalar, to-gives}
-use Rattle.convert.proofs.LookUps.{held}
 use borrow.Author.Needs.{needs}
 use Rattle.convert.proofs.to_run.Statement.{statement}
 use Rattle.convert.proofs.to_run.Tie as tie
 
 abbrev Inv-loop : tie.InvT-loop
-Inv-loop rec states codes infos order hints input out₀ substitute at₀ w₀ out at w = Going (toStep utf8 (tableIn rec states codes infos) substitute) 0 input out₀ out 0 at w
+Inv-loop rec states codes infos order hints input out₀ settings at₀ w₀ out at w = Going (toStep utf8 (tableIn rec (slices states codes infos order)) settings) 0 input out₀ out 0 at w
 
 abbrev μ-loop : tie.MeasureT-loop
-μ-loop rec states codes infos order hints input out₀ substitute at₀ w₀ out at w = length input - at
+μ-loop rec states codes infos order hints input out₀ settings at₀ w₀ out at w = length input - at
 
 -- the table, the step and the rest of the input at a turn
 abbrev tableAt : tie.After-to-step Inv-loop μ-loop → Table
-tableAt d = let a = d .before .before .before .before .before .before .before .before .before .before .before .args in tableIn (a .rec) (a .states .now) (a .codes .now) (a .infos .now)
+tableAt d = let a = d .before .before .before .before .before .before .before .before .before .before .before .args in tableIn (a .rec) (slices (a .states .now) (a .codes .now) (a .infos .now) (a .order .now))
 
 abbrev stepAt : tie.After-to-step Inv-loop μ-loop → Step
-stepAt d = toStep utf8 (tableAt d) (d .before .before .before .before .before .before .before .before .before .before .before .args .substitute)
+stepAt d = toStep utf8 (tableAt d) (d .before .before .before .before .before .before .before .before .before .before .before .args .settings)
 
 abbrev restAt : tie.After-to-step Inv-loop μ-loop → List ℕ
 restAt d = drop (d .before .before .before .loop .at) (d .before .before .before .before .before .before .before .before .before .before .before .args .input .now)
 
 -- what the rest begins with, and gives
-sequenceAt : (d : tie.After-to-step Inv-loop μ-loop) → d .to-step .result ≡ toSequence (tableAt d) (d .before .before .before .before .before .before .before .before .before .before .before .args .substitute) 0 (restAt d)
+sequenceAt : (d : tie.After-to-step Inv-loop μ-loop)
+    → d .to-step .result ≡ toSequence (tableAt d) (d .before .before .before .before .before .before .before .before .before .before .before .args .settings) 0 (restAt d)
 sequenceAt d =
     let a = d .before .before .before .before .before .before .before .before .before .before .before .args in
     d .to-step .ensures (a .order .now) (d .before .before .before .before .before .before .before .before .before .before .before .pre)
-    ∙ ap (toSequence (tableAt d) (a .substitute) 0) (rest-is (a .input .now) (d .before .before .before .loop .at))
+    ∙ ap (toSequence (tableAt d) (a .settings) 0) (rest-is (a .input .now) (d .before .before .before .loop .at))
 
 gaveAt : (d : tie.After-to-step Inv-loop μ-loop) (x : Sequence) → d .to-step .result ≡ x → stepAt d 0 (restAt d) ≡ encoded utf8 0 x
-gaveAt d x e = to-gives (tableAt d) (d .before .before .before .before .before .before .before .before .before .before .before .args .substitute) 0 utf8 (restAt d) x (sym (sequenceAt d) ∙ e)
+gaveAt d x e = to-gives (tableAt d) (d .before .before .before .before .before .before .before .before .before .before .before .args .settings) 0 utf8 (restAt d) x (sym (sequenceAt d) ∙ e)
 
 -- T6: a scalar value
 scalarAt : (d : tie.After-to-step Inv-loop μ-loop) (x n : ℕ) → d .to-step .result ≡ sequence.Scalar x n → Scalar x
 scalarAt d x n e =
     let a = d .before .before .before .before .before .before .before .before .before .before .before .args in
     let small : All (λ y. y < 4294967296) (a .codes .now) = all-places (λ y. y < 4294967296) (a .codes .now) 0 (λ i. d .before .before .before .before .before .before .before .before .before .shared-slice-known2 .given i .fits) in
-    let k = held (a .rec) (a .states .now) (a .codes .now) (a .infos .now) (a .order .now) (d .before .before .before .before .before .before .before .before .before .before .before .pre) small (omega (arith, d .before .before .before .before .before .before .before .before .before .before .before .good .0)) in
-    to-scalar (tableAt d) (a .substitute) 0 (restAt d) x n (k .1 .rule6) (sym (sequenceAt d) ∙ e)
+    let k = valid-table limits (a .rec) (slices (a .states .now) (a .codes .now) (a .infos .now) (a .order .now)) (d .before .before .before .before .before .before .before .before .before .before .before .pre) small (omega (arith, d .before .before .before .before .before .before .before .before .before .before .before .good .0)) in
+    to-scalar (tableAt d) (a .settings) 0 (restAt d) x n (k .1 .rule6) (sym (sequenceAt d) ∙ e)
 
 -- the turn is over
 nextAt : (c : tie.After-known-told3 Inv-loop μ-loop) → let d = c .before .before .before .before .before .before .before .before .before .before in
@@ -66,12 +69,12 @@ nextAt c =
     let x = c .before .before .before .before .before .encode in
     let p = put-done (k .0 .0) (q .out) (q .w) (c .before .put .given .0 .0) (sym (c .before .put .given .1) ∙ x .ensures .0) in
     turn (q .inv) (d .before .before .loop-test .taken) (encodeOf (k .0 .0)) (k .0 .1 .0) 0 (gaveAt d (sequence.Scalar (k .0 .0) (k .0 .1 .0)) (k .1))
-    (to-sound utf8 (tableAt d) (d .before .before .before .before .before .before .before .before .before .before .before .args .substitute)) (c .before .put .given .0 .0) (x .last .1 .0) (p .count) (p .within) (x .ensures .1 ∙ p .bytes)
+    (to-sound utf8 (tableAt d) (d .before .before .before .before .before .before .before .before .before .before .before .args .settings)) (c .before .put .given .0 .0) (x .last .1 .0) (p .count) (p .within) (x .ensures .1 ∙ p .bytes)
 
 loop-holds : tie.Need-loop-holds Inv-loop μ-loop
 loop-holds c =
     let a = c .before .before .before .before .before .before .before .args in
-    begin (toStep utf8 (tableIn (a .rec) (a .states .now) (a .codes .now) (a .infos .now)) (a .substitute)) 0 (a .input .now) (a .out .now)
+    begin (toStep utf8 (tableIn (a .rec) (slices (a .states .now) (a .codes .now) (a .infos .now) (a .order .now))) (a .settings)) 0 (a .input .now) (a .out .now)
 
 sub-to-step : tie.Need-sub-to-step Inv-loop μ-loop
 sub-to-step c = omega arith
@@ -120,7 +123,7 @@ loop-less c =
     let d = c .before .before .before .before .before .before .before .before .before .before in
     let k = c .before .before .before .before .before .before .before .before .sequence2 .given in
     let g = nextAt c in
-    let p = to-sound utf8 (tableAt d) (c .before .before .before .before .before .before .before .before .before .before .before .before .before .before .before .before .before .before .before .before .before .args .substitute) .some 0 (restAt d) (encodeOf (k .0 .0)) (k .0 .1 .0) 0 (gaveAt d (sequence.Scalar (k .0 .0) (k .0 .1 .0)) (k .1)) in
+    let p = to-sound utf8 (tableAt d) (c .before .before .before .before .before .before .before .before .before .before .before .before .before .before .before .before .before .before .before .before .before .args .settings) .some 0 (restAt d) (encodeOf (k .0 .0)) (k .0 .1 .0) 0 (gaveAt d (sequence.Scalar (k .0 .0) (k .0 .1 .0)) (k .1)) in
     omega arith
 
 loop-again : tie.Need-loop-again Inv-loop μ-loop

@@ -4,6 +4,7 @@ use Prim.Native.Nat.{_≤_}
 use borrow.Author.Needs.{needs}
 use borrow.Author.Tests.{not-false}
 use lib.ListN.{length}
+use Rattle.table.specs.Slices.{slices}
 use Rattle.frames.specs.Pages.{codesLeft}
 use Rattle.oboepond.proofs.show_codes.Statement.{statement}
 use Rattle.oboepond.proofs.show_codes.Tie as tie
@@ -12,7 +13,7 @@ abbrev Inv-loop : tie.InvT-loop
 Inv-loop rec states codes infos order out₀ done₀ out done = (length out ≡ length out₀) × (11 ≤ length out)
 
 abbrev μ-loop : tie.MeasureT-loop
-μ-loop rec states codes infos order out₀ done₀ out done = codesLeft rec states codes infos (done .position)
+μ-loop rec states codes infos order out₀ done₀ out done = codesLeft rec (slices states codes infos order) (done .position)
 
 loop-holds : tie.Need-loop-holds Inv-loop μ-loop
 loop-holds c = search needs

@@ -6,6 +6,7 @@ use borrow.Author.Needs.{needs}
 use denote.Ref.{now}
 use lib.ListN.{take, replicate}
 use lib.Seq.{length-take-le}
+use Rattle.table.specs.Slices.{slices}
 use Rattle.frames.specs.Lines.{putInto}
 use Rattle.frames.proofs.OnePage.{written-fit, lines-fit, lines-are, listed-is, codes-fall, put-fit}
 use Rattle.frames.proofs.pages.list_codes.Statement.{statement}
@@ -34,7 +35,7 @@ array-share-prefix-entries c =
     let u = c .before .audit in
     let space = length-take-le (s .result) zeros (s .ensures .1) ∙ s .ensures .0 in
     let same = u .kept .1 .1 .1 .1 .1 .1 .1 .1 .0 in
-    written-fit (a .rec) (now (a .states)) (now (a .codes)) (now (a .infos)) (now (a .order)) (a .done) (now (a .out)) (take (s .result) zeros) _ (u .result) space (u .ensures) same _
+    written-fit (a .rec) (slices (now (a .states)) (now (a .codes)) (now (a .infos)) (now (a .order))) (a .done) (now (a .out)) (take (s .result) zeros) _ (u .result) space (u .ensures .0, u .ensures .1) same _
 
 slice-aggregate-put-findings : tie.Need-slice-aggregate-put-findings
 slice-aggregate-put-findings c =
@@ -43,7 +44,7 @@ slice-aggregate-put-findings c =
     let u = c .before .before .audit in
     let space = length-take-le (s .result) zeros (s .ensures .1) ∙ s .ensures .0 in
     let same = u .kept .1 .1 .1 .1 .1 .1 .1 .1 .0 in
-    sym (length-take-le (u .result .written) _ (written-fit (a .rec) (now (a .states)) (now (a .codes)) (now (a .infos)) (now (a .order)) (a .done) (now (a .out)) (take (s .result) zeros) _ (u .result) space (u .ensures) same _))
+    sym (length-take-le (u .result .written) _ (written-fit (a .rec) (slices (now (a .states)) (now (a .codes)) (now (a .infos)) (now (a .order))) (a .done) (now (a .out)) (take (s .result) zeros) _ (u .result) space (u .ensures .0, u .ensures .1) same _))
 
 put-findings-requires : tie.Need-put-findings-requires
 put-findings-requires c κs =
@@ -52,7 +53,7 @@ put-findings-requires c κs =
     let u = c .before .before .before .audit in
     let space = length-take-le (s .result) zeros (s .ensures .1) ∙ s .ensures .0 in
     let same = u .kept .1 .1 .1 .1 .1 .1 .1 .1 .0 in
-    lines-fit (a .rec) (now (a .states)) (now (a .codes)) (now (a .infos)) (now (a .order)) (a .done) (now (a .out)) (take (s .result) zeros) _ (u .result) space (u .ensures) same _
+    lines-fit (a .rec) (slices (now (a .states)) (now (a .codes)) (now (a .infos)) (now (a .order))) (a .done) (now (a .out)) (take (s .result) zeros) _ (u .result) space (u .ensures .0, u .ensures .1) same _
 
 wrapping-add-u64-requires : tie.Need-wrapping-add-u64-requires
 wrapping-add-u64-requires c κs = search needs
@@ -78,10 +79,10 @@ returns c =
     let space = length-take-le (s .result) zeros (s .ensures .1) ∙ s .ensures .0 in
     let same = u .kept .1 .1 .1 .1 .1 .1 .1 .1 .0 in (
       (
-        listed-is (a .rec) (now (a .states)) (now (a .codes)) (now (a .infos)) (now (a .order)) (a .done) (now (a .out)) (take (s .result) zeros) _ (u .result) space (u .ensures) same _ (looked .result) (listed .result) (p .result) (m .result) (looked .ensures) (listed .ensures) (p .ensures .0) (m .ensures),
-        p .ensures .1 ∙ ap (putInto (now (a .out)) 0) (lines-are (a .rec) (now (a .states)) (now (a .codes)) (now (a .infos)) (now (a .order)) (a .done) (now (a .out)) (take (s .result) zeros) _ (u .result) space (u .ensures) same _),
+        listed-is (a .rec) (slices (now (a .states)) (now (a .codes)) (now (a .infos)) (now (a .order))) (a .done) (now (a .out)) (take (s .result) zeros) _ (u .result) space (u .ensures .0, u .ensures .1) same _ (looked .result) (listed .result) (p .result) (m .result) (looked .ensures) (listed .ensures) (p .ensures .0) (m .ensures),
+        p .ensures .1 ∙ ap (putInto (now (a .out)) 0) (lines-are (a .rec) (slices (now (a .states)) (now (a .codes)) (now (a .infos)) (now (a .order))) (a .done) (now (a .out)) (take (s .result) zeros) _ (u .result) space (u .ensures .0, u .ensures .1) same _),
       ),
-      ((λ t h. codes-fall (a .rec) (now (a .states)) (now (a .codes)) (now (a .infos)) (now (a .order)) (a .done) (now (a .out)) (take (s .result) zeros) _ (u .result) space (u .ensures) same (sym (m .ensures) ∙ t) h), put-fit (a .rec) (now (a .states)) (now (a .codes)) (now (a .infos)) (now (a .order)) (a .done) (now (a .out)) (take (s .result) zeros) _ (u .result) space (u .ensures) same _ (p .result) (p .last .1 .0) (p .ensures .0) (p .kept .1 .0)),
+      ((λ t h. codes-fall (a .rec) (slices (now (a .states)) (now (a .codes)) (now (a .infos)) (now (a .order))) (a .done) (now (a .out)) (take (s .result) zeros) _ (u .result) space (u .ensures .0, u .ensures .1) same (sym (m .ensures) ∙ t) h), put-fit (a .rec) (slices (now (a .states)) (now (a .codes)) (now (a .infos)) (now (a .order))) (a .done) (now (a .out)) (take (s .result) zeros) _ (u .result) space (u .ensures .0, u .ensures .1) same _ (p .result) (p .last .1 .0) (p .ensures .0) (p .kept .1 .0)),
     )
 
 pub list-codes-spec : {M : Type 1} → statement M

@@ -1,9 +1,14 @@
 -- `put_findings` meets its contract. The invariant: storing the lines left gives what storing all of them gives. The measure: the entries left.
-use mathlib.Core.Path.{sym, _∙_}
-use Prim.Native.Nat.{_-_}
+use mathlib.Core.Path.{_≡_, sym, ap, _∙_}
+use Prim.Native.Nat.{ℕ, _-_}
 use native.Mathlib.Omega.{arith}
 use borrow.Author.Needs.{needs}
 use lib.ListN.{length}
+use Rattle.table.specs.Codes.{bytesOf}
+use Rattle.audit.specs.Audit.{entryIn}
+use Rattle.audit.specs.declared.Entry.{Entry}
+use Rattle.frames.specs.Lines.{findingLine, roomAfter, putInto}
+use Rattle.frames.specs.Pages.{entryLine}
 use Rattle.frames.proofs.Findings.{Putting, putting-start, putting-more, putting-fits, putting-all}
 use Rattle.frames.proofs.pages.put_findings.Statement.{statement}
 use Rattle.frames.proofs.pages.put_findings.Tie as tie
@@ -17,20 +22,18 @@ abbrev μ-loop : tie.MeasureT-loop
 loop-holds : tie.Need-loop-holds Inv-loop μ-loop
 loop-holds c = putting-start _ _ (c .before .before .pre)
 
-mul-entry : tie.Need-mul-entry Inv-loop μ-loop
-mul-entry c = search needs
+-- the line of an entry, by its parts
+line-is : (e : Entry) (n : ℕ) → e ≡ entryIn n → findingLine (bytesOf (e .code)) (e .cause) ≡ entryLine n
+line-is e n q = ap (λ (x : Entry). findingLine (bytesOf (x .code)) (x .cause)) q
 
-shared-slice-read-entry : tie.Need-shared-slice-read-entry Inv-loop μ-loop
-shared-slice-read-entry c = search needs
+mul-entry-in : tie.Need-mul-entry-in Inv-loop μ-loop
+mul-entry-in c = search needs
 
-cast-put-finding : tie.Need-cast-put-finding Inv-loop μ-loop
-cast-put-finding c = search needs
+shared-slice-read-entry-in : tie.Need-shared-slice-read-entry-in Inv-loop μ-loop
+shared-slice-read-entry-in c = search needs
 
-cast-put-finding-2 : tie.Need-cast-put-finding-2 Inv-loop μ-loop
-cast-put-finding-2 c = search needs
-
-cast-put-finding-3 : tie.Need-cast-put-finding-3 Inv-loop μ-loop
-cast-put-finding-3 c = omega (arith, c .shared-slice-known2 .given (c .before .before .loop .i))
+entry-in-requires : tie.Need-entry-in-requires Inv-loop μ-loop
+entry-in-requires c κs = search needs
 
 put-finding-requires : tie.Need-put-finding-requires Inv-loop μ-loop
 put-finding-requires c κs = search needs
@@ -41,11 +44,18 @@ enum-known-room c = search needs
 enum-told : tie.Need-enum-told Inv-loop μ-loop
 enum-told c = search needs
 
+-- there is room for the next line
+fits-next : (c : tie.After-enum-told Inv-loop μ-loop) → ⊥
+fits-next c =
+    let l = c .before .before .before .before .before .before .before .before .before .before .loop in
+    putting-fits (l .inv) (c .before .before .before .before .before .before .before .before .before .loop-test .taken)
+    (sym (c .enum-told .given .1) ∙ c .before .before .before .before .put-finding .ensures .0 ∙ ap (roomAfter (l .out) (l .put)) (line-is _ _ (c .before .before .before .before .before .before .before .entry-in .ensures)))
+
 same-length : tie.Need-same-length Inv-loop μ-loop
-same-length c = absurd (putting-fits (c .before .before .before .before .before .before .before .before .loop .inv) (c .before .before .before .before .before .before .before .loop-test .taken) (sym (c .enum-told .given .1) ∙ c .before .before .before .before .put-finding .ensures .0))
+same-length c = absurd (fits-next c)
 
 returns : tie.Need-returns Inv-loop μ-loop
-returns c = absurd (putting-fits (c .before .before .before .before .before .before .before .before .loop .inv) (c .before .before .before .before .before .before .before .loop-test .taken) (sym (c .enum-told .given .1) ∙ c .before .before .before .before .put-finding .ensures .0))
+returns c = absurd (fits-next c)
 
 add-i : tie.Need-add-i Inv-loop μ-loop
 add-i c = search needs
@@ -54,7 +64,12 @@ loop-less : tie.Need-loop-less Inv-loop μ-loop
 loop-less c = search needs
 
 loop-again : tie.Need-loop-again Inv-loop μ-loop
-loop-again c = putting-more (c .before .before .before .before .before .before .before .before .before .loop .inv) (c .before .before .before .before .before .before .before .before .loop-test .taken) (c .before .room .given .0 .0) (c .before .before .before .before .before .put-finding .last .1 .1 .1 .0) (sym (c .before .room .given .1) ∙ c .before .before .before .before .before .put-finding .ensures .0) (c .before .before .before .before .before .put-finding .ensures .1)
+loop-again c =
+    let l = c .before .before .before .before .before .before .before .before .before .before .before .loop in
+    let p = c .before .before .before .before .before .put-finding in
+    let q = line-is _ _ (c .before .before .before .before .before .before .before .before .entry-in .ensures) in
+    putting-more (l .inv) (c .before .before .before .before .before .before .before .before .before .before .loop-test .taken) (c .before .room .given .0 .0) (p .last .1 .1 .1 .0)
+    (sym (c .before .room .given .1) ∙ p .ensures .0 ∙ ap (roomAfter (l .out) (l .put)) q) (p .ensures .1 ∙ ap (putInto (l .out) (l .put)) q)
 
 same-length-2 : tie.Need-same-length-2 Inv-loop μ-loop
 same-length-2 c = c .before .loop .inv .same
@@ -69,11 +84,9 @@ put-findings-spec =
     Inv-loop
     μ-loop
     loop-holds
-    mul-entry
-    shared-slice-read-entry
-    cast-put-finding
-    cast-put-finding-2
-    cast-put-finding-3
+    mul-entry-in
+    shared-slice-read-entry-in
+    entry-in-requires
     put-finding-requires
     enum-known-room
     enum-told

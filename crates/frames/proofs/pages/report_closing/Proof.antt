@@ -1,7 +1,6 @@
 -- `report_closing` meets its contract.
 use borrow.Author.Needs.{needs}
 use denote.Ref.{now}
-use Rattle.frames.specs.Lines.{closingLine}
 use Rattle.frames.proofs.Answers.{counted-put}
 use Rattle.frames.proofs.pages.report_closing.Statement.{statement}
 use Rattle.frames.proofs.pages.report_closing.Tie as tie
@@ -19,7 +18,7 @@ returns : tie.Need-returns
 returns c =
     let a = c .before .before .before .before .before .before .args in
     let p = c .before .before .before .put-closing in
-    counted-put (now (a .out)) (closingLine (a .done .looked) (a .done .listed)) (c .count-put .result) (p .result) _ (c .count-put .ensures) (p .ensures)
+    counted-put (now (a .out)) _ (c .count-put .result) (p .result) _ (c .count-put .ensures) (p .ensures)
 
 pub report-closing-spec : {M : Type 1} → statement M
 report-closing-spec = tie.close (tie.spec put-closing-requires count-put-requires same-length returns)

@@ -2,6 +2,7 @@
 use Prim.Native.Nat.{_≤_, _<_}
 use native.Mathlib.Omega.{arith}
 use lib.ListN.{length}
+use Rattle.table.specs.Slices.{slices}
 use Rattle.frames.specs.Stream.{heldIn}
 use Rattle.frames.specs.Report.{convertIn, lineReport}
 use Rattle.frames.proofs.Widths.{line-fits}
@@ -31,11 +32,11 @@ returns c =
     let x = c .before .before .before .before .before .before .take-frames in
     let line = x .last .1 .1 .1 .1 .1 .1 .1 .0 in
     let out = x .last .1 .1 .1 .1 .1 .1 .1 .1 .1 .1 .1 .0 in
-    let write = lineReport (convertIn (a .rec) (a .states .now) (a .codes .now) (a .infos .now) (a .order .now)) in
+    let write = lineReport (convertIn (a .rec) (slices (a .states .now) (a .codes .now) (a .infos .now) (a .order .now))) in
     let h = heldIn (a .line .now) (a .held) in
     let moves : (a .from < length (a .chunk .now) → 32777 ≤ length (a .out .now) → a .from < x .result .at) × (a .from ≤ length (a .chunk .now) → x .result .at ≤ length (a .chunk .now)) = (
       λ b w. answer-moves write (a .line .now) h (a .chunk .now) (a .from) (a .out .now) (x .result) line out (x .ensures) b
-          (λ l. let n = line-fits (a .rec) (a .states .now) (a .codes .now) (a .infos .now) (a .order .now) l in omega arith),
+          (λ l. let n = line-fits (a .rec) (slices (a .states .now) (a .codes .now) (a .infos .now) (a .order .now)) l in omega arith),
       answer-within write (a .line .now) h (a .chunk .now) (a .from) (a .out .now) (x .result) line out (x .ensures),
     ) in
     (x .ensures, (moves, answer-put write (a .line .now) h (a .chunk .now) (a .from) (a .out .now) (x .result) line out (x .ensures)))

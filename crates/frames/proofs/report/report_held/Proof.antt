@@ -3,6 +3,7 @@ use mathlib.Core.Path.{sym, ap}
 use native.Mathlib.Omega.{arith}
 use denote.Ref.{now}
 use lib.Seq.{length-take-le}
+use Rattle.table.specs.Slices.{slices}
 use Rattle.frames.specs.Report.{convertIn, lineReport}
 use Rattle.frames.proofs.Answers.{put-same}
 use Rattle.frames.proofs.Held.{held-long, held-past, held-whole}
@@ -24,7 +25,7 @@ unfolding lineReport
 returns c =
     let a = c .before .before .before .before .before .before .before .before .before .before .before .before .before .before .args in
     let g = c .before .before .put-fixed in
-    let e = sym (ap (lineReport (convertIn (a .rec) (now (a .states)) (now (a .codes)) (now (a .infos)) (now (a .order)))) (held-long (now (a .line)) (a .held) (c .before .before .before .before .before .if1 .taken))) in
+    let e = sym (ap (lineReport (convertIn (a .rec) (slices (now (a .states)) (now (a .codes)) (now (a .infos)) (now (a .order))))) (held-long (now (a .line)) (a .held) (c .before .before .before .before .before .if1 .taken))) in
     put-same (now (a .out)) (a .at) e (g .result) (g .last .1 .0) (g .ensures)
 
 slice-aggregate-put-fixed-2 : tie.Need-slice-aggregate-put-fixed-2
@@ -41,7 +42,7 @@ unfolding lineReport
 returns-2 c =
     let a = c .before .before .before .before .before .before .before .before .before .before .before .before .before .before .before .args in
     let g = c .before .before .put-fixed2 in
-    let e = sym (ap (lineReport (convertIn (a .rec) (now (a .states)) (now (a .codes)) (now (a .infos)) (now (a .order)))) (held-past (now (a .line)) (a .held) (c .before .before .before .before .before .before .if1 .left) (c .before .before .before .before .before .if2 .taken))) in
+    let e = sym (ap (lineReport (convertIn (a .rec) (slices (now (a .states)) (now (a .codes)) (now (a .infos)) (now (a .order))))) (held-past (now (a .line)) (a .held) (c .before .before .before .before .before .before .if1 .left) (c .before .before .before .before .before .if2 .taken))) in
     put-same (now (a .out)) (a .at) e (g .result) (g .last .1 .0) (g .ensures)
 
 slice-aggregate-report-line : tie.Need-slice-aggregate-report-line
@@ -66,7 +67,7 @@ unfolding lineReport
 returns-3 c =
     let a = c .before .before .before .before .before .before .before .before .before .before .before .before .before .before .before .before .before .before .before .before .before .args in
     let g = c .before .before .before .before .before .before .report-line in
-    let e = sym (ap (lineReport (convertIn (a .rec) (now (a .states)) (now (a .codes)) (now (a .infos)) (now (a .order)))) (held-whole (now (a .line)) (a .held) (c .before .before .before .before .before .before .before .before .before .before .before .before .if1 .left) (omega arith))) in
+    let e = sym (ap (lineReport (convertIn (a .rec) (slices (now (a .states)) (now (a .codes)) (now (a .infos)) (now (a .order))))) (held-whole (now (a .line)) (a .held) (c .before .before .before .before .before .before .before .before .before .before .before .before .if1 .left) (omega arith))) in
     put-same (now (a .out)) (a .at) e (g .result) (g .last .1 .1 .1 .1 .1 .1 .1 .1 .0) (g .ensures)
 
 pub report-held-spec : {M : Type 1} → statement M

@@ -5,6 +5,7 @@ use mathlib.Core.Logic.{⊎-elim}
 use native.Mathlib.Omega.{arith}
 use borrow.Author.Tests.{not-true, not-false}
 use denote.Ref.{now}
+use Rattle.table.specs.Slices.{slices}
 use Rattle.frames.specs.Stream.{whole, lastLine, heldIn}
 use Rattle.frames.specs.Report.{convertIn, lineReport, linesReport}
 use Rattle.frames.proofs.Held.{held-empty, long-is-some, count-is-some, last-some, last-none}
@@ -22,7 +23,7 @@ returns c =
     let s = c .before .before .before .before .settle in
     let l = heldIn (now (a .line)) (a .held) in
     let k = sym (s .ensures .1) ∙ held-empty (now (a .line)) (s .result) (not-true (s .result .long) (c .before .before .if1 .taken)) (c .if2 .taken) in
-    let e = last-none (lineReport (convertIn (a .rec) (now (a .states)) (now (a .codes)) (now (a .infos)) (now (a .order)))) l k in
+    let e = last-none (lineReport (convertIn (a .rec) (slices (now (a .states)) (now (a .codes)) (now (a .infos)) (now (a .order))))) l k in
     let r = put-nothing (now (a .out)) in
     ((rw e (r .0), rw e (r .1)), (omega arith, refl))
 
@@ -47,7 +48,7 @@ returns-2 c =
     let s = c .before .before .before .before .before .before .before .before .before .before .before .settle in
     let h = c .before .before .before .before .before .report-held in
     let n = c .count-put in
-    let write = lineReport (convertIn (a .rec) (now (a .states)) (now (a .codes)) (now (a .infos)) (now (a .order))) in
+    let write = lineReport (convertIn (a .rec) (slices (now (a .states)) (now (a .codes)) (now (a .infos)) (now (a .order)))) in
     let l = heldIn (now (a .line)) (a .held) in
     let some : l ≡ whole [] → ⊥ =
     ⊎-elim (λ w. count-is-some l (s .result) (s .ensures .0) (w .2 .left)) (λ w. long-is-some l (s .result) (s .ensures .0) (not-false (s .result .long) (w .left))) (c .before .before .before .before .before .before .before .before .before .if1 .came) in

@@ -2,6 +2,7 @@
 use mathlib.Core.Path.{sym, ap, _∙_}
 use denote.Ref.{now}
 use lib.Seq.{length-take-le}
+use Rattle.table.specs.Slices.{slices}
 use Rattle.frames.specs.Report.{convertIn, frameLine}
 use Rattle.frames.proofs.Answers.{frame-is, bad-is, put-same}
 use borrow.Author.Needs.{needs}
@@ -61,7 +62,7 @@ returns c =
     let n = c .before .before .before .before .before .before .before .before .before .n in
     let r = frame-is (now (a .frame)) (s .pre .0) (now (a .line)) (f .last .1 .0) (n .given .0 .0) (f .ensures .1) (sym (n .given .1) ∙ f .ensures .0) in
     let g = c .before .before .before .before .report-frame in
-    let e = ap (frameLine (convertIn (a .rec) (now (a .states)) (now (a .codes)) (now (a .infos)) (now (a .order)))) (r .0) in
+    let e = ap (frameLine (convertIn (a .rec) (slices (now (a .states)) (now (a .codes)) (now (a .infos)) (now (a .order))))) (r .0) in
     put-same (now (a .out)) (a .at) e (g .result) (g .last .1 .1 .1 .1 .1 .1 .1 .0) (g .ensures)
 
 same-length-4 : tie.Need-same-length-4
@@ -76,7 +77,7 @@ returns-2 c =
     let a = s .args in
     let f = c .before .before .before .before .before .before .before .before .before .parse-frame in
     let g = c .before .before .put-fixed in
-    let e = ap (frameLine (convertIn (a .rec) (now (a .states)) (now (a .codes)) (now (a .infos)) (now (a .order)))) (sym (bad-is (now (a .frame)) (s .pre .0) (now (a .line)) (sym (c .before .before .before .before .before .enum-told .given .1) ∙ f .ensures .0))) in
+    let e = ap (frameLine (convertIn (a .rec) (slices (now (a .states)) (now (a .codes)) (now (a .infos)) (now (a .order))))) (sym (bad-is (now (a .frame)) (s .pre .0) (now (a .line)) (sym (c .before .before .before .before .before .enum-told .given .1) ∙ f .ensures .0))) in
     put-same (now (a .out)) (a .at) e (g .result) (g .last .1 .0) (g .ensures)
 
 pub report-line-spec : {M : Type 1} → statement M

@@ -5,6 +5,7 @@ use mathlib.Core.List.{List}
 use native.Mathlib.Omega.{arith}
 use borrow.Author.Needs.{needs}
 use lib.ListN.{length, drop}
+use Rattle.table.specs.Slices.{slices}
 use Rattle.frames.specs.Stream.{Line, Step, stepOf, heldIn, partialOf}
 use Rattle.frames.specs.Report.{convertIn, lineReport}
 use Rattle.frames.proofs.Turns.{WasLine, was-line, was-more, Going, begin, held-as, ends, ends-more, ends-full, took-some, turn}
@@ -13,14 +14,14 @@ use Rattle.frames.proofs.report.take_frames.Tie as tie
 
 abbrev Inv-loop : tie.InvT-loop
 Inv-loop rec states codes infos order chunk from line₀ frame₀ text₀ out₀ kept₀ at₀ put₀ line frame text out kept at put =
-    Going (lineReport (convertIn rec states codes infos order)) chunk from line₀ out₀ (heldIn line₀ kept₀) line out kept at put × (length frame ≡ length frame₀) × (length text ≡ length text₀)
+    Going (lineReport (convertIn rec (slices states codes infos order))) chunk from line₀ out₀ (heldIn line₀ kept₀) line out kept at put × (length frame ≡ length frame₀) × (length text ≡ length text₀)
 
 abbrev μ-loop : tie.MeasureT-loop
 μ-loop rec states codes infos order chunk from line₀ frame₀ text₀ out₀ kept₀ at₀ put₀ line frame text out kept at put = length chunk - at
 
 -- what is written for a line, and the step at a turn
 abbrev writeAt : tie.At-loop Inv-loop μ-loop → Line → List ℕ
-writeAt d = let a = d .before .before .before .before .before .before .before .before .before .before .before .before .args in lineReport (convertIn (a .rec) (a .states .now) (a .codes .now) (a .infos .now) (a .order .now))
+writeAt d = let a = d .before .before .before .before .before .before .before .before .before .before .before .before .args in lineReport (convertIn (a .rec) (slices (a .states .now) (a .codes .now) (a .infos .now) (a .order .now)))
 
 abbrev stepAt : tie.At-loop Inv-loop μ-loop → Step
 stepAt d = stepOf (length (d .loop .line)) (heldIn (d .loop .line) (d .loop .kept)) (drop (d .loop .at) (d .before .before .before .before .before .before .before .before .before .before .before .before .args .chunk .now))
@@ -45,7 +46,7 @@ loop-holds : tie.Need-loop-holds Inv-loop μ-loop
 loop-holds c =
     let a = c .before .before .before .before .before .before .before .before .before .before .before .args in
     let x = c .settle in
-    (begin (lineReport (convertIn (a .rec) (a .states .now) (a .codes .now) (a .infos .now) (a .order .now))) (a .chunk .now) (a .from) (a .line .now) (a .out .now) (x .result) (x .ensures .0 ∙ ap partialOf (sym (x .ensures .1))), refl, refl)
+    (begin (lineReport (convertIn (a .rec) (slices (a .states .now) (a .codes .now) (a .infos .now) (a .order .now)))) (a .chunk .now) (a .from) (a .line .now) (a .out .now) (x .result) (x .ensures .0 ∙ ap partialOf (sym (x .ensures .1))), refl, refl)
 
 take-line-requires : tie.Need-take-line-requires Inv-loop μ-loop
 take-line-requires c κs = search needs

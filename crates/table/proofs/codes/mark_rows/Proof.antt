@@ -1,18 +1,19 @@
-use Prim.Native.Nat.{_-_, _≤_}
+use Prim.Native.Nat.{_-_, _*_, _≤_}
 use mathlib.Core.Path.{_≡_, refl}
 use native.Mathlib.Omega.{arith}
 use lib.ListN.{length, length-set}
 use borrow.Author.Needs.{needs}
-use Rattle.table.specs.States.{stepAt}
+use Rattle.table.specs.Limits.{limits}
+use Rattle.table.specs.States.{longest, stepAt}
 use Rattle.table.proofs.Marks.{Told, told-none, told-step, told-all}
 use Rattle.table.proofs.codes.mark_rows.Statement.{statement}
 use Rattle.table.proofs.codes.mark_rows.Tie as tie
 
 abbrev Inv-loop : tie.InvT-loop
-Inv-loop states marks₀ i₀ marks i = (16 ≤ i) × (i ≤ 64) × (length marks ≡ 64) × Told (stepAt states) marks i
+Inv-loop states marks₀ i₀ marks i = (limits .rows ≤ i) × (i ≤ limits .rows * longest) × (length marks ≡ limits .rows * longest) × Told (stepAt states) marks i
 
 abbrev μ-loop : tie.MeasureT-loop
-μ-loop states marks₀ i₀ marks i = 64 - i
+μ-loop states marks₀ i₀ marks i = limits .rows * longest - i
 
 loop-holds : tie.Need-loop-holds Inv-loop μ-loop
 loop-holds c = let a = c .before .args in (omega arith, omega arith, refl, told-none (stepAt (a .states .now)))
@@ -51,7 +52,7 @@ loop-again : tie.Need-loop-again Inv-loop μ-loop
 loop-again c = let a = c .before .before .before .before .before .args in (omega arith, omega arith, simp length-set (c .before .before .before .loop .inv .2), told-step (stepAt (a .states .now)) (c .before .before .before .loop .marks) (c .before .before .before .loop .i) (c .row-mark .result) (c .before .before .before .loop .inv .2) (omega arith) (omega arith) (c .before .before .before .loop .inv .3) (c .row-mark .ensures))
 
 returns : tie.Need-returns Inv-loop μ-loop
-returns c = told-all (stepAt (c .before .before .before .args .states .now)) (c .before .loop .marks) (c .before .loop .i) (omega arith) (c .before .loop .inv .3)
+returns c = told-all (stepAt (c .before .before .before .args .states .now)) (c .before .loop .marks) (c .before .loop .i) (c .before .loop .inv .2) (omega arith) (c .before .loop .inv .3)
 
 pub mark-rows-spec : {M : Type 1} → statement M
 mark-rows-spec =

@@ -11,7 +11,7 @@ same-length : tie.Need-same-length
 same-length c = search needs
 
 returns : tie.Need-returns
-returns c = c .before .before .fill-range .ensures ∙ full-row _
+returns c = c .before .before .fill-range .ensures ∙ full-row _ _
 
 pub full-row-spec : {M : Type 1} → statement M
 full-row-spec = tie.close (tie.spec fill-range-requires same-length returns)

@@ -1,7 +1,7 @@
 use native.Mathlib.Omega.{arith}
 use borrow.Author.Needs.{needs}
 use Rattle.table.specs.Header.{InRange}
-use Rattle.table.specs.Load.{keep}
+use Rattle.table.proofs.KeyLaws.{keepIn, kept-as}
 use Rattle.table.proofs.header.keep_value.Statement.{statement}
 use Rattle.table.proofs.header.keep_value.Tie as tie
 
@@ -43,44 +43,64 @@ add-g-2 : tie.Need-add-g-2
 add-g-2 c = search needs
 
 returns : tie.Need-returns
-unfolding keep
-returns c = rw (c .enum-told .given .1)
+unfolding keepIn
+returns c =
+    let q = c .before .before in
+    kept-as (q .args .h) (q .args .v) (q .pre .1) (q .pre .2) _ (rw (c .enum-told .given .1))
 
 returns-2 : tie.Need-returns-2
-unfolding keep
-returns-2 c = rw (c .enum-told2 .given .1)
+unfolding keepIn
+returns-2 c =
+    let q = c .before .before in
+    kept-as (q .args .h) (q .args .v) (q .pre .1) (q .pre .2) _ (rw (c .enum-told2 .given .1))
 
 returns-3 : tie.Need-returns-3
-unfolding keep
-returns-3 c = rw (c .enum-told3 .given .1)
+unfolding keepIn
+returns-3 c =
+    let q = c .before .before in
+    kept-as (q .args .h) (q .args .v) (q .pre .1) (q .pre .2) _ (rw (c .enum-told3 .given .1))
 
 returns-4 : tie.Need-returns-4
-unfolding keep
-returns-4 c = rw (c .enum-told4 .given .1)
+unfolding keepIn
+returns-4 c =
+    let q = c .before .before in
+    kept-as (q .args .h) (q .args .v) (q .pre .1) (q .pre .2) _ (rw (c .enum-told4 .given .1))
 
 returns-5 : tie.Need-returns-5
-unfolding keep
-returns-5 c = rw (c .before .v .given .1)
+unfolding keepIn
+returns-5 c =
+    let q = c .before .before .before in
+    kept-as (q .args .h) (q .args .v) (q .pre .1) (q .pre .2) _ (rw (c .before .v .given .1))
 
 returns-6 : tie.Need-returns-6
-unfolding keep
-returns-6 c = rw (c .before .v2 .given .1)
+unfolding keepIn
+returns-6 c =
+    let q = c .before .before .before in
+    kept-as (q .args .h) (q .args .v) (q .pre .1) (q .pre .2) _ (rw (c .before .v2 .given .1))
 
 returns-7 : tie.Need-returns-7
-unfolding keep
-returns-7 c = rw (c .before .v3 .given .1)
+unfolding keepIn
+returns-7 c =
+    let q = c .before .before .before in
+    kept-as (q .args .h) (q .args .v) (q .pre .1) (q .pre .2) _ (rw (c .before .v3 .given .1))
 
 returns-8 : tie.Need-returns-8
-unfolding keep
-returns-8 c = rw (c .before .v4 .given .1)
+unfolding keepIn
+returns-8 c =
+    let q = c .before .before .before in
+    kept-as (q .args .h) (q .args .v) (q .pre .1) (q .pre .2) _ (rw (c .before .v4 .given .1))
 
 returns-9 : tie.Need-returns-9
-unfolding keep
-returns-9 c = rw (c .before .v5 .given .1)
+unfolding keepIn
+returns-9 c =
+    let q = c .before .before .before in
+    kept-as (q .args .h) (q .args .v) (q .pre .1) (q .pre .2) _ (rw (c .before .v5 .given .1))
 
 returns-10 : tie.Need-returns-10
-unfolding keep
-returns-10 c = rw (c .before .enum-told5 .given .1)
+unfolding keepIn
+returns-10 c =
+    let q = c .before .before .before in
+    kept-as (q .args .h) (q .args .v) (q .pre .1) (q .pre .2) _ (rw (c .before .enum-told5 .given .1))
 
 pub keep-value-spec : {M : Type 1} → statement M
 keep-value-spec =

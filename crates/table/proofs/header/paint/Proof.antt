@@ -4,14 +4,15 @@ use native.Mathlib.Omega.{arith}
 use native.Mathlib.Nat.{sub-zero}
 use lib.ListN.{length}
 use borrow.Author.Needs.{needs}
-use Rattle.table.specs.Row.{itemAt, Fits, columnsGo, columnsAt, painted}
+use Rattle.table.specs.Cells.{cellNumber}
+use Rattle.table.specs.Row.{itemAt, Fits, columnsGo, columnsAt, meaning, painted}
 use Rattle.lists.proofs.Parts.{left-step}
 use Rattle.table.proofs.RowText.{paint-more, paint-last, paint-wrong}
 use Rattle.table.proofs.header.paint.Statement.{statement}
 use Rattle.table.proofs.header.paint.Tie as tie
 
 abbrev Inv-loop : tie.InvT-loop
-Inv-loop s at row₀ i₀ n₀ row i n = (painted (columnsAt s at) row₀ ≡ painted (columnsGo (length s - n) s (itemAt s i)) row) × (length row ≡ length row₀) × (n ≤ i)
+Inv-loop s at row₀ i₀ n₀ row i n = (painted (λ e. cellNumber (meaning e)) (columnsAt s at) row₀ ≡ painted (λ e. cellNumber (meaning e)) (columnsGo (length s - n) s (itemAt s i)) row) × (length row ≡ length row₀) × (n ≤ i)
 
 abbrev μ-loop : tie.MeasureT-loop
 μ-loop s at row₀ i₀ n₀ row i n = length s - i

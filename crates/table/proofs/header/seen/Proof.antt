@@ -1,5 +1,8 @@
 use borrow.Author.Needs.{needs}
+use mathlib.Core.Path.{sym}
+use Rattle.table.specs.Codes.{bytesOf}
 use Rattle.table.specs.Numbers.{n11}
+use Rattle.table.proofs.KeyLaws.{given-is, sub1-given}
 use Rattle.table.proofs.header.seen.Statement.{statement}
 use Rattle.table.proofs.header.seen.Tie as tie
 
@@ -36,23 +39,33 @@ returns c = rw (c .enum-told .given .1)
 
 returns-2 : tie.Need-returns-2
 unfolding n11
-returns-2 c = rw (c .before .enum-told2 .given .1)
+returns-2 c =
+    let h = c .before .before .before .args .h in
+    rw (c .before .enum-told2 .given .1) (sym (given-is (h .min) (h .min)))
 
 returns-3 : tie.Need-returns-3
 unfolding n11
-returns-3 c = rw (c .before .enum-told3 .given .1)
+returns-3 c =
+    let h = c .before .before .before .args .h in
+    rw (c .before .enum-told3 .given .1) (sym (given-is (h .max) (h .max)))
 
 returns-4 : tie.Need-returns-4
 unfolding n11
-returns-4 c = rw (c .before .enum-told4 .given .1)
+returns-4 c =
+    let h = c .before .before .before .args .h in
+    rw (c .before .enum-told4 .given .1) (sym (given-is (h .class) _))
 
 returns-5 : tie.Need-returns-5
 unfolding n11
-returns-5 c = rw (c .before .enum-told5 .given .1)
+returns-5 c =
+    let h = c .before .before .before .args .h in
+    rw (c .before .enum-told5 .given .1) (sym (given-is (h .sub .len) (bytesOf (h .sub))))
 
 returns-6 : tie.Need-returns-6
 unfolding n11
-returns-6 c = rw (c .before .enum-told6 .given .1)
+returns-6 c =
+    let h = c .before .before .before .args .h in
+    rw (c .before .enum-told6 .given .1) (sym (sub1-given (h .sub1)))
 
 returns-7 : tie.Need-returns-7
 unfolding n11

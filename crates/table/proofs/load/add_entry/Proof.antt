@@ -1,3 +1,4 @@
+use Rattle.table.specs.Limits.{limits}
 use Rattle.table.proofs.MappingSteps.{refuse-fine, added-kept, added-held, added-codes, added-infos, added-order}
 use Rattle.table.proofs.Inserted.{kept-read-needs, free-ready}
 use Rattle.table.specs.declared.load.Refusal.the-variants.{BytesTaken, PointTaken, TooMany}
@@ -11,7 +12,7 @@ use Rattle.table.proofs.load.add_entry.Statement.{statement}
 use Rattle.table.proofs.load.add_entry.Tie as tie
 
 read-taken-requires : tie.Need-read-taken-requires
-read-taken-requires c κs = let a = c .before .before .before .before .before .args in kept-read-needs (a .n) (a .codes .now) (a .infos .now) (a .order .now) (c .before .before .before .before .before .pre .0) (mk (a .c) (a .i)) (c .before .before .before .before .before .pre .1)
+read-taken-requires c κs = let a = c .before .before .before .before .before .args in kept-read-needs (limits .mappings) (a .n) (a .codes .now) (a .infos .now) (a .order .now) (c .before .before .before .before .before .pre .0) (mk (a .c) (a .i)) (c .before .before .before .before .before .pre .1)
 
 same-length : tie.Need-same-length
 same-length c = search needs
@@ -47,10 +48,10 @@ same-length-8 : tie.Need-same-length-8
 same-length-8 c = search needs
 
 returns-3 : tie.Need-returns-3
-returns-3 c = (sym (pick-no _ _ _ (sym (c .before .before .before .before .before .before .before .read-taken .ensures) ∙ c .before .before .before .before .before .before .if1 .left) ∙ pick-no _ _ _ (sym (c .before .before .write-taken .ensures) ∙ c .before .if2 .left) ∙ pick-yes (leb 2048 (c .before .before .before .before .before .before .before .before .before .before .before .before .before .args .n)) _ _ (le-leb 2048 (c .before .before .before .before .before .before .before .before .before .before .before .before .before .args .n) (c .if3 .taken))), λ e. absurd (refuse-fine TooMany e), refl, refl, refl)
+returns-3 c = (sym (pick-no _ _ _ (sym (c .before .before .before .before .before .before .before .read-taken .ensures) ∙ c .before .before .before .before .before .before .if1 .left) ∙ pick-no _ _ _ (sym (c .before .before .write-taken .ensures) ∙ c .before .if2 .left) ∙ pick-yes (leb (limits .mappings) (c .before .before .before .before .before .before .before .before .before .before .before .before .before .args .n)) _ _ (le-leb (limits .mappings) (c .before .before .before .before .before .before .before .before .before .before .before .before .before .args .n) (c .if3 .taken))), λ e. absurd (refuse-fine TooMany e), refl, refl, refl)
 
 insert-entry-requires : tie.Need-insert-entry-requires
-insert-entry-requires c κs = let a = c .before .before .before .before .before .before .before .before .before .before .before .before .before .before .before .before .args in free-ready (a .n) (a .codes .now) (a .infos .now) (a .order .now) (c .before .before .before .before .before .before .before .before .before .before .before .before .before .before .before .before .pre .0) (mk (a .c) (a .i)) (sym (c .before .before .before .before .before .before .before .before .before .before .read-taken .ensures) ∙ c .before .before .before .before .before .before .before .before .before .if1 .left) (sym (c .before .before .before .before .before .write-taken .ensures) ∙ c .before .before .before .before .if2 .left) (c .before .before .before .if3 .left)
+insert-entry-requires c κs = let a = c .before .before .before .before .before .before .before .before .before .before .before .before .before .before .before .before .args in free-ready (limits .mappings) (a .n) (a .codes .now) (a .infos .now) (a .order .now) (c .before .before .before .before .before .before .before .before .before .before .before .before .before .before .before .before .pre .0) (mk (a .c) (a .i)) (sym (c .before .before .before .before .before .before .before .before .before .before .read-taken .ensures) ∙ c .before .before .before .before .before .before .before .before .before .if1 .left) (sym (c .before .before .before .before .before .write-taken .ensures) ∙ c .before .before .before .before .if2 .left) (c .before .before .before .if3 .left)
 
 same-length-9 : tie.Need-same-length-9
 same-length-9 c = search needs
@@ -62,7 +63,7 @@ same-length-11 : tie.Need-same-length-11
 same-length-11 c = search needs
 
 returns-4 : tie.Need-returns-4
-returns-4 c = let a = c .before .before .before .before .before .before .before .before .before .before .before .before .before .before .before .before .before .before .before .before .before .before .before .args in let r = sym (c .before .before .before .before .before .before .before .before .before .before .before .before .before .before .before .before .before .read-taken .ensures) ∙ c .before .before .before .before .before .before .before .before .before .before .before .before .before .before .before .before .if1 .left in let w = sym (c .before .before .before .before .before .before .before .before .before .before .before .before .write-taken .ensures) ∙ c .before .before .before .before .before .before .before .before .before .before .before .if2 .left in (sym (pick-no _ _ _ r ∙ pick-no _ _ _ w ∙ pick-no (leb 2048 (a .n)) _ _ (lt-leb 2048 (a .n) (c .before .before .before .before .before .before .before .before .before .before .if3 .left))), λ _. (added-kept (a .n) (a .codes .now) (a .infos .now) (a .order .now) (c .before .before .before .before .before .before .before .before .before .before .before .before .before .before .before .before .before .before .before .before .before .before .before .pre .0) (mk (a .c) (a .i)) r w (c .before .before .before .before .before .before .before .before .before .before .if3 .left) _ _ _ (c .before .before .before .before .before .before .insert-entry .ensures .0) (c .before .before .before .before .before .before .insert-entry .ensures .1) (c .before .before .before .before .before .before .insert-entry .ensures .2), added-held (a .n) (a .codes .now) (a .infos .now) (a .order .now) (c .before .before .before .before .before .before .before .before .before .before .before .before .before .before .before .before .before .before .before .before .before .before .before .pre .0) (mk (a .c) (a .i)) r w (c .before .before .before .before .before .before .before .before .before .before .if3 .left) _ _ _ (c .before .before .before .before .before .before .insert-entry .ensures .0) (c .before .before .before .before .before .before .insert-entry .ensures .1) (c .before .before .before .before .before .before .insert-entry .ensures .2)), added-codes (a .n) (a .codes .now) (a .infos .now) (a .order .now) (c .before .before .before .before .before .before .before .before .before .before .before .before .before .before .before .before .before .before .before .before .before .before .before .pre .0) (mk (a .c) (a .i)) r w (c .before .before .before .before .before .before .before .before .before .before .if3 .left) _ _ _ (c .before .before .before .before .before .before .insert-entry .ensures .0) (c .before .before .before .before .before .before .insert-entry .ensures .1) (c .before .before .before .before .before .before .insert-entry .ensures .2), added-infos (a .n) (a .codes .now) (a .infos .now) (a .order .now) (c .before .before .before .before .before .before .before .before .before .before .before .before .before .before .before .before .before .before .before .before .before .before .before .pre .0) (mk (a .c) (a .i)) r w (c .before .before .before .before .before .before .before .before .before .before .if3 .left) _ _ _ (c .before .before .before .before .before .before .insert-entry .ensures .0) (c .before .before .before .before .before .before .insert-entry .ensures .1) (c .before .before .before .before .before .before .insert-entry .ensures .2), added-order (a .n) (a .codes .now) (a .infos .now) (a .order .now) (c .before .before .before .before .before .before .before .before .before .before .before .before .before .before .before .before .before .before .before .before .before .before .before .pre .0) (mk (a .c) (a .i)) r w (c .before .before .before .before .before .before .before .before .before .before .if3 .left) _ _ _ (c .before .before .before .before .before .before .insert-entry .ensures .0) (c .before .before .before .before .before .before .insert-entry .ensures .1) (c .before .before .before .before .before .before .insert-entry .ensures .2))
+returns-4 c = let a = c .before .before .before .before .before .before .before .before .before .before .before .before .before .before .before .before .before .before .before .before .before .before .before .args in let r = sym (c .before .before .before .before .before .before .before .before .before .before .before .before .before .before .before .before .before .read-taken .ensures) ∙ c .before .before .before .before .before .before .before .before .before .before .before .before .before .before .before .before .if1 .left in let w = sym (c .before .before .before .before .before .before .before .before .before .before .before .before .write-taken .ensures) ∙ c .before .before .before .before .before .before .before .before .before .before .before .if2 .left in (sym (pick-no _ _ _ r ∙ pick-no _ _ _ w ∙ pick-no (leb (limits .mappings) (a .n)) _ _ (lt-leb (limits .mappings) (a .n) (c .before .before .before .before .before .before .before .before .before .before .if3 .left))), λ _. (added-kept (limits .mappings) (a .n) (a .codes .now) (a .infos .now) (a .order .now) (c .before .before .before .before .before .before .before .before .before .before .before .before .before .before .before .before .before .before .before .before .before .before .before .pre .0) (mk (a .c) (a .i)) r w (c .before .before .before .before .before .before .before .before .before .before .if3 .left) _ _ _ (c .before .before .before .before .before .before .insert-entry .ensures .0) (c .before .before .before .before .before .before .insert-entry .ensures .1) (c .before .before .before .before .before .before .insert-entry .ensures .2), added-held (limits .mappings) (a .n) (a .codes .now) (a .infos .now) (a .order .now) (c .before .before .before .before .before .before .before .before .before .before .before .before .before .before .before .before .before .before .before .before .before .before .before .pre .0) (mk (a .c) (a .i)) r w (c .before .before .before .before .before .before .before .before .before .before .if3 .left) _ _ _ (c .before .before .before .before .before .before .insert-entry .ensures .0) (c .before .before .before .before .before .before .insert-entry .ensures .1) (c .before .before .before .before .before .before .insert-entry .ensures .2)), added-codes (limits .mappings) (a .n) (a .codes .now) (a .infos .now) (a .order .now) (c .before .before .before .before .before .before .before .before .before .before .before .before .before .before .before .before .before .before .before .before .before .before .before .pre .0) (mk (a .c) (a .i)) r w (c .before .before .before .before .before .before .before .before .before .before .if3 .left) _ _ _ (c .before .before .before .before .before .before .insert-entry .ensures .0) (c .before .before .before .before .before .before .insert-entry .ensures .1) (c .before .before .before .before .before .before .insert-entry .ensures .2), added-infos (limits .mappings) (a .n) (a .codes .now) (a .infos .now) (a .order .now) (c .before .before .before .before .before .before .before .before .before .before .before .before .before .before .before .before .before .before .before .before .before .before .before .pre .0) (mk (a .c) (a .i)) r w (c .before .before .before .before .before .before .before .before .before .before .if3 .left) _ _ _ (c .before .before .before .before .before .before .insert-entry .ensures .0) (c .before .before .before .before .before .before .insert-entry .ensures .1) (c .before .before .before .before .before .before .insert-entry .ensures .2), added-order (limits .mappings) (a .n) (a .codes .now) (a .infos .now) (a .order .now) (c .before .before .before .before .before .before .before .before .before .before .before .before .before .before .before .before .before .before .before .before .before .before .before .pre .0) (mk (a .c) (a .i)) r w (c .before .before .before .before .before .before .before .before .before .before .if3 .left) _ _ _ (c .before .before .before .before .before .before .insert-entry .ensures .0) (c .before .before .before .before .before .before .insert-entry .ensures .1) (c .before .before .before .before .before .before .insert-entry .ensures .2))
 
 pub add-entry-spec : {M : Type 1} → statement M
 add-entry-spec =

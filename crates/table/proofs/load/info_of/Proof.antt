@@ -38,7 +38,7 @@ add-result-3 : tie.Need-add-result-3
 add-result-3 c = search needs
 
 returns-4 : tie.Need-returns-4
-returns-4 c = let q : _≡_ {A = ℕ} (rankOf (c .before .before .before .args .d)) 3 = search tests in (omega (arith, q), omega arith)
+returns-4 c = let q : _≡_ {A = ℕ} (rankOf (c .before .before .before .args .d)) 4 = search tests in (omega (arith, q), omega arith)
 
 pub info-of-spec : {M : Type 1} → statement M
 info-of-spec =

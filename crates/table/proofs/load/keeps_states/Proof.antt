@@ -1,3 +1,4 @@
+use Rattle.table.specs.Limits.{limits, needed}
 use Rattle.table.proofs.HeaderSteps.{sound-is}
 use Rattle.lists.proofs.Cases.{pick-yes, pick-no}
 use borrow.Author.Tests.{le-leb, lt-leb}
@@ -9,22 +10,22 @@ use Rattle.table.proofs.load.keeps_states.Statement.{statement}
 use Rattle.table.proofs.load.keeps_states.Tie as tie
 
 returns : tie.Need-returns
-returns c = λ rows codes infos order held. let a = c .before .before .before .args in sym (sound-is (a .h) rows (a .states .now) codes infos order held (c .before .before .before .pre .2) (c .before .before .before .pre .1) ∙ pick-no (leb (a .h .min) (a .h .max)) _ _ (lt-leb (a .h .min) (a .h .max) (c .if1 .taken)))
+returns c = λ rows codes infos order held. let a = c .before .before .before .args in sym (sound-is limits (a .h) rows (a .states .now) codes infos order held (c .before .before .before .pre .2) (c .before .before .before .pre .1) ∙ pick-no (leb (a .h .min) (a .h .max)) _ _ (lt-leb (a .h .min) (a .h .max) (c .if1 .taken)))
 
 states-ok-requires : tie.Need-states-ok-requires
 states-ok-requires c κs = search needs
 
 slice-aggregate-keeps-t4 : tie.Need-slice-aggregate-keeps-t4
-slice-aggregate-keeps-t4 c = sym (length-take-le 4096 (c .before .before .before .before .before .before .before .args .states .now) (c .before .before .before .before .before .before .before .pre .2))
+slice-aggregate-keeps-t4 c = sym (length-take-le (needed limits) (c .before .before .before .before .before .before .before .args .states .now) (c .before .before .before .before .before .before .before .pre .2))
 
 keeps-t4-requires : tie.Need-keeps-t4-requires
 keeps-t4-requires c κs = search needs
 
 returns-2 : tie.Need-returns-2
-returns-2 c = λ rows codes infos order held. let a = c .before .before .before .before .before .before .before .before .args in sym (sound-is (a .h) rows (a .states .now) codes infos order held (c .before .before .before .before .before .before .before .before .pre .2) (c .before .before .before .before .before .before .before .before .pre .1) ∙ pick-yes (leb (a .h .min) (a .h .max)) _ _ (le-leb (a .h .min) (a .h .max) (c .before .before .before .before .before .if1 .left)) ∙ pick-yes _ _ _ (sym (c .before .before .before .before .states-ok .ensures) ∙ c .before .before .before .if2 .taken) ∙ sym (c .keeps-t4 .ensures))
+returns-2 c = λ rows codes infos order held. let a = c .before .before .before .before .before .before .before .before .args in sym (sound-is limits (a .h) rows (a .states .now) codes infos order held (c .before .before .before .before .before .before .before .before .pre .2) (c .before .before .before .before .before .before .before .before .pre .1) ∙ pick-yes (leb (a .h .min) (a .h .max)) _ _ (le-leb (a .h .min) (a .h .max) (c .before .before .before .before .before .if1 .left)) ∙ pick-yes _ _ _ (sym (c .before .before .before .before .states-ok .ensures) ∙ c .before .before .before .if2 .taken) ∙ sym (c .keeps-t4 .ensures))
 
 returns-3 : tie.Need-returns-3
-returns-3 c = λ rows codes infos order held. let a = c .before .before .before .before .before .args in sym (sound-is (a .h) rows (a .states .now) codes infos order held (c .before .before .before .before .before .pre .2) (c .before .before .before .before .before .pre .1) ∙ pick-yes (leb (a .h .min) (a .h .max)) _ _ (le-leb (a .h .min) (a .h .max) (c .before .before .if1 .left)) ∙ pick-no _ _ _ (sym (c .before .states-ok .ensures) ∙ c .if2 .left))
+returns-3 c = λ rows codes infos order held. let a = c .before .before .before .before .before .args in sym (sound-is limits (a .h) rows (a .states .now) codes infos order held (c .before .before .before .before .before .pre .2) (c .before .before .before .before .before .pre .1) ∙ pick-yes (leb (a .h .min) (a .h .max)) _ _ (le-leb (a .h .min) (a .h .max) (c .before .before .if1 .left)) ∙ pick-no _ _ _ (sym (c .before .states-ok .ensures) ∙ c .if2 .left))
 
 pub keeps-states-spec : {M : Type 1} → statement M
 keeps-states-spec =

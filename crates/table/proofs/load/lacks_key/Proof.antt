@@ -1,29 +1,29 @@
-use Rattle.table.proofs.HeaderSteps.{absent-is}
+use Rattle.table.proofs.HeaderSteps.{absent-as}
 use borrow.Author.Tests.{not-true, not-false}
 use Rattle.lists.proofs.Laws.{tests}
 use Rattle.table.proofs.load.lacks_key.Statement.{statement}
 use Rattle.table.proofs.load.lacks_key.Tie as tie
 
 returns : tie.Need-returns
-returns c = search (tests, absent-is, not-true (c .before .before .args .h .name) (c .if1 .taken))
+returns c = absent-as (c .before .before .args .h) _ (search (tests, not-true (c .before .before .args .h .name) (c .if1 .taken)))
 
 returns-2 : tie.Need-returns-2
-returns-2 c = search (tests, absent-is, not-false (c .before .before .before .before .args .h .name) (c .before .before .if1 .left))
+returns-2 c = absent-as (c .before .before .before .before .args .h) _ (search (tests, not-false (c .before .before .before .before .args .h .name) (c .before .before .if1 .left)))
 
 returns-3 : tie.Need-returns-3
-returns-3 c = search (tests, absent-is, not-false (c .before .before .before .before .before .before .args .h .name) (c .before .before .before .before .if1 .left))
+returns-3 c = absent-as (c .before .before .before .before .before .before .args .h) _ (search (tests, not-false (c .before .before .before .before .before .before .args .h .name) (c .before .before .before .before .if1 .left)))
 
 returns-4 : tie.Need-returns-4
-returns-4 c = search (tests, absent-is, not-false (c .before .before .before .before .before .before .before .before .args .h .name) (c .before .before .before .before .before .before .if1 .left))
+returns-4 c = absent-as (c .before .before .before .before .before .before .before .before .args .h) _ (search (tests, not-false (c .before .before .before .before .before .before .before .before .args .h .name) (c .before .before .before .before .before .before .if1 .left)))
 
 returns-5 : tie.Need-returns-5
-returns-5 c = search (tests, absent-is, not-false (c .before .before .before .before .before .before .before .before .before .before .args .h .name) (c .before .before .before .before .before .before .before .before .if1 .left))
+returns-5 c = absent-as (c .before .before .before .before .before .before .before .before .before .before .args .h) _ (search (tests, not-false (c .before .before .before .before .before .before .before .before .before .before .args .h .name) (c .before .before .before .before .before .before .before .before .if1 .left)))
 
 returns-6 : tie.Need-returns-6
-returns-6 c = search (tests, absent-is, not-false (c .before .before .before .before .before .before .before .before .before .before .before .before .args .h .name) (c .before .before .before .before .before .before .before .before .before .before .if1 .left))
+returns-6 c = absent-as (c .before .before .before .before .before .before .before .before .before .before .before .before .args .h) _ (search (tests, not-false (c .before .before .before .before .before .before .before .before .before .before .before .before .args .h .name) (c .before .before .before .before .before .before .before .before .before .before .if1 .left)))
 
 returns-7 : tie.Need-returns-7
-returns-7 c = search (tests, absent-is, not-false (c .before .before .before .before .before .before .before .before .before .before .before .before .before .args .h .name) (c .before .before .before .before .before .before .before .before .before .before .before .if1 .left))
+returns-7 c = absent-as (c .before .before .before .before .before .before .before .before .before .before .before .before .before .args .h) _ (search (tests, not-false (c .before .before .before .before .before .before .before .before .before .before .before .before .before .args .h .name) (c .before .before .before .before .before .before .before .before .before .before .before .if1 .left)))
 
 pub lacks-key-spec : {M : Type 1} → statement M
 lacks-key-spec =

@@ -7,12 +7,14 @@ use borrow.Author.Needs.{needs}
 use types.Run.{OneOf}
 use denote.Enum.Declared.{tagOf}
 use lib.ListN.{length, take, drop}
-use Rattle.table.specs.Limits.{limits}
+use Rattle.table.specs.Limits.{limits, needed}
+use Rattle.table.specs.Cells.{Cell}
 use Rattle.table.specs.Meaning.{Line}
+use Rattle.table.specs.Slices.{Slices, slices}
 use Rattle.table.specs.Text.{linesOf}
 use Rattle.table.specs.Numbers.{lowest}
-use Rattle.table.specs.Load.{Reading, Step, went, stop, reading, phaseStep, tableOf, accepted, refused, outcomeAt, loadGo, loadOf, statesOf, codesOf, infosOf, orderedOf, loadedAs}
-use Rattle.table.specs.Progress.{Holding, Beyond}
+use Rattle.table.specs.Load.{Reading, Step, went, stop, reading, stepOf, tableOf, accepted, refused, outcomeAt, loadGo, loadOf, statesOf, codesOf, infosOf, orderedOf, loadedAs}
+use Rattle.table.specs.Progress.{keysIn, Holding, Beyond}
 use Rattle.table.specs.declared.load.Phase.{Phase}
 use Rattle.table.specs.declared.load.Phase.the-variants.{Header, Mappings, Ended}
 use Rattle.table.specs.declared.load.Refusal.the-variants.{NoEnd}
@@ -24,19 +26,19 @@ use Rattle.table.proofs.load.run.Statement.{statement}
 use Rattle.table.proofs.load.run.Tie as tie
 
 -- what is left to read gives the outcome of the whole; what was read is held, and nothing past the needed places is changed
-record Going (text states₀ codes₀ infos₀ order₀ states codes infos order : List ℕ) (at k : ℕ) (p : Progress) : Type 0 where
-  rows : List (List ℕ)
+record Going (text : List ℕ) (m₀ m : Slices) (at k : ℕ) (p : Progress) : Type 0 where
+  rows : List (List Cell)
   lines : List Line
-  pending : loadOf limits text ≡ loadGo lowest limits k (linesOf (drop at text)) (went (reading (p .phase) (p .head) rows lines))
-  holding : Holding limits (p .head) (p .mappings) rows lines states codes infos order
+  pending : loadOf limits text ≡ loadGo lowest limits k (linesOf (drop at text)) (went (reading (p .phase) (keysIn (p .head)) rows lines))
+  holding : Holding limits (p .head) (p .mappings) rows lines m
   none-yet-read : p .phase ≡ Header → [] ≡ lines
-  beyond : Beyond limits states₀ codes₀ infos₀ order₀ states codes infos order
+  beyond : Beyond limits m₀ m
   counted : k ≤ at
   inside : at ≤ length text
-  states-kept : length states ≡ length states₀
-  codes-kept : length codes ≡ length codes₀
-  infos-kept : length infos ≡ length infos₀
-  order-kept : length order ≡ length order₀
+  states-kept : length (m .states) ≡ length (m₀ .states)
+  codes-kept : length (m .codes) ≡ length (m₀ .codes)
+  infos-kept : length (m .infos) ≡ length (m₀ .infos)
+  order-kept : length (m .order) ≡ length (m₀ .order)
 
 -- the last line is read: END CHARMAP came or did not
 not-ended : (k : ℕ) (r : Reading) (p : Phase) → OneOf (0 ∷ 1 ∷ []) (tagOf phases.the-type p) → outcomeAt k r p ≡ refused NoEnd (k + 1)
@@ -51,7 +53,7 @@ unfolding outcomeAt
 ended k r p e = ap (outcomeAt k r) e
 
 abbrev Inv-loop : tie.InvT-loop
-Inv-loop text states₀ codes₀ infos₀ order₀ at₀ k₀ p₀ states codes infos order at k p = Going text states₀ codes₀ infos₀ order₀ states codes infos order at k p
+Inv-loop text states₀ codes₀ infos₀ order₀ at₀ k₀ p₀ states codes infos order at k p = Going text (slices states₀ codes₀ infos₀ order₀) (slices states codes infos order) at k p
 
 abbrev μ-loop : tie.MeasureT-loop
 μ-loop text states₀ codes₀ infos₀ order₀ at₀ k₀ p₀ states codes infos order at k p = length text - at
@@ -124,8 +126,8 @@ returns c =
     let d = w .ensures .1 in
     let e = c .before .before .before .before .before .before .before .before .before .before .before .before .before .before .before .before .before .before .before .before .before .before .before .before .before .before .before .before .before .before .before .cut-line in
     let x = c .before .before .before .before .before .before .before .before .before .before .before .before .before .before .before .w .given .0 .0 in
-    let t : Step = phaseStep lowest limits (l .p .phase) (l .p .head) (i .rows) (i .lines) (take (e .result .stop - l .at) (drop (l .at) (a .text .now))) in
-    let q : t ≡ stop x = taken-stop limits t (w .result) x _ _ _ _ (w .ensures .0 (i .rows) (i .lines) (i .holding)) (c .before .before .before .before .before .before .before .before .before .before .before .before .before .before .before .w .given .1) in
+    let t : Step = stepOf lowest limits (reading (l .p .phase) (keysIn (l .p .head)) (i .rows) (i .lines)) (take (e .result .stop - l .at) (drop (l .at) (a .text .now))) in
+    let q : t ≡ stop x = taken-stop limits t (w .result) x _ (w .ensures .0 (i .rows) (i .lines) (i .holding)) (c .before .before .before .before .before .before .before .before .before .before .before .before .before .before .before .w .given .1) in
     let r : loadOf limits (a .text .now) ≡ refused x (l .k + 1) =
     i .pending
     ∙ run-step limits (a .text .now) (l .at) (e .result .stop) (e .result .next) (l .k) _ (c .before .before .before .before .before .before .before .before .before .before .before .before .before .before .before .before .before .before .before .before .before .before .before .before .before .before .before .before .before .before .before .before .loop-test .taken) (e .ensures .0) (e .ensures .1)
@@ -133,10 +135,10 @@ returns c =
     ∙ stop-outcome lowest limits (l .k + 1) _ x in
     let z = c .before .before .before .before .before .before .before .before .before .wipe .ensures in (
       c .refuse .ensures ∙ sym (ap loadedAs r),
-      refused-left 4096 statesOf _ x (l .k + 1) (a .states .now) (w .last .1 .1 .0) _ r (z .0) (d .states-rest ∙ i .beyond .states-rest),
-      refused-left 2048 codesOf _ x (l .k + 1) (a .codes .now) (w .last .1 .1 .1 .0) _ r (z .1) (d .codes-rest ∙ i .beyond .codes-rest),
-      refused-left 2048 infosOf _ x (l .k + 1) (a .infos .now) (w .last .1 .1 .1 .1 .0) _ r (z .2) (d .infos-rest ∙ i .beyond .infos-rest),
-      refused-left 2048 orderedOf _ x (l .k + 1) (a .order .now) (w .last .1 .1 .1 .1 .1 .0) _ r (z .3) (d .order-rest ∙ i .beyond .order-rest),
+      refused-left (needed limits) statesOf _ x (l .k + 1) (a .states .now) (w .last .1 .1 .0) _ r (z .0) (d .states-rest ∙ i .beyond .states-rest),
+      refused-left (limits .mappings) codesOf _ x (l .k + 1) (a .codes .now) (w .last .1 .1 .1 .0) _ r (z .1) (d .codes-rest ∙ i .beyond .codes-rest),
+      refused-left (limits .mappings) infosOf _ x (l .k + 1) (a .infos .now) (w .last .1 .1 .1 .1 .0) _ r (z .2) (d .infos-rest ∙ i .beyond .infos-rest),
+      refused-left (limits .mappings) orderedOf _ x (l .k + 1) (a .order .now) (w .last .1 .1 .1 .1 .1 .0) _ r (z .3) (d .order-rest ∙ i .beyond .order-rest),
     )
 
 enum-known-w-2 : tie.Need-enum-known-w-2 Inv-loop μ-loop
@@ -154,8 +156,8 @@ loop-again c =
     let d = w .ensures .1 in
     let e = c .before .before .before .before .before .before .before .before .before .before .before .before .before .before .before .before .before .cut-line in
     let q = c .before .w2 .given .0 .0 in
-    let t : Step = phaseStep lowest limits (l .p .phase) (l .p .head) (i .rows) (i .lines) (take (e .result .stop - l .at) (drop (l .at) (a .text .now))) in
-    let g : Goes limits t q _ _ _ _ = taken-on limits t (w .result) q _ _ _ _ (w .ensures .0 (i .rows) (i .lines) (i .holding)) (c .before .w2 .given .1) in
+    let t : Step = stepOf lowest limits (reading (l .p .phase) (keysIn (l .p .head)) (i .rows) (i .lines)) (take (e .result .stop - l .at) (drop (l .at) (a .text .now))) in
+    let g : Goes limits t q _ = taken-on limits t (w .result) q _ (w .ensures .0 (i .rows) (i .lines) (i .holding)) (c .before .w2 .given .1) in
     record {
       rows = g .rows;
       lines = g .lines;
@@ -164,7 +166,7 @@ loop-again c =
           ∙ run-step limits (a .text .now) (l .at) (e .result .stop) (e .result .next) (l .k) _ (c .before .before .before .before .before .before .before .before .before .before .before .before .before .before .before .before .before .before .loop-test .taken) (e .ensures .0) (e .ensures .1)
           ∙ ap (loadGo lowest limits (l .k + 1) (linesOf (drop (e .result .next) (a .text .now)))) (g .step-is);
       holding = g .holding;
-      none-yet-read = none-yet limits (l .p .phase) (l .p .head) (i .rows) (i .lines) _ _ (g .step-is);
+      none-yet-read = none-yet limits (reading (l .p .phase) (keysIn (l .p .head)) (i .rows) (i .lines)) _ _ (g .step-is);
       beyond = record {
         states-rest = d .states-rest ∙ i .beyond .states-rest;
         codes-rest = d .codes-rest ∙ i .beyond .codes-rest;
@@ -211,10 +213,10 @@ returns-2 c =
     let r : loadOf limits (a .text .now) ≡ refused NoEnd (l .k + 1) = i .pending ∙ run-end limits (a .text .now) (l .at) (l .k) _ (c .before .before .before .before .before .before .before .before .before .before .before .before .before .before .before .loop-test .left) ∙ not-ended (l .k) _ (l .p .phase) (c .before .before .before .before .before .before .before .before .before .before .before .before .before .before .match2 .keys2) in
     let z = c .before .before .before .before .before .before .before .before .before .wipe2 .ensures in (
       c .refuse2 .ensures ∙ sym (ap loadedAs r),
-      refused-left 4096 statesOf _ NoEnd (l .k + 1) (a .states .now) (l .states) _ r (z .0) (i .beyond .states-rest),
-      refused-left 2048 codesOf _ NoEnd (l .k + 1) (a .codes .now) (l .codes) _ r (z .1) (i .beyond .codes-rest),
-      refused-left 2048 infosOf _ NoEnd (l .k + 1) (a .infos .now) (l .infos) _ r (z .2) (i .beyond .infos-rest),
-      refused-left 2048 orderedOf _ NoEnd (l .k + 1) (a .order .now) (l .order) _ r (z .3) (i .beyond .order-rest),
+      refused-left (needed limits) statesOf _ NoEnd (l .k + 1) (a .states .now) (l .states) _ r (z .0) (i .beyond .states-rest),
+      refused-left (limits .mappings) codesOf _ NoEnd (l .k + 1) (a .codes .now) (l .codes) _ r (z .1) (i .beyond .codes-rest),
+      refused-left (limits .mappings) infosOf _ NoEnd (l .k + 1) (a .infos .now) (l .infos) _ r (z .2) (i .beyond .infos-rest),
+      refused-left (limits .mappings) orderedOf _ NoEnd (l .k + 1) (a .order .now) (l .order) _ r (z .3) (i .beyond .order-rest),
     )
 
 same-length-9 : tie.Need-same-length-9 Inv-loop μ-loop
@@ -237,14 +239,14 @@ returns-3 c =
     let a = c .before .before .before .before .before .before .before .before .before .before .before .args in
     let h = i .holding in
     let m = h .stored in
-    let r : loadOf limits (a .text .now) ≡ accepted (tableOf (reading (l .p .phase) (l .p .head) (i .rows) (i .lines))) =
+    let r : loadOf limits (a .text .now) ≡ accepted (tableOf (reading (l .p .phase) (keysIn (l .p .head)) (i .rows) (i .lines))) =
     i .pending ∙ run-end limits (a .text .now) (l .at) (l .k) _ (c .before .before .before .before .loop-test .left) ∙ ended (l .k) _ (l .p .phase) (c .before .before .enum-told .given .1) in
-    let n = record-left (a .text .now) (l .p .phase) (l .p .head) (l .p .mappings) (i .rows) (i .lines) _ _ _ _ h r in (
+    let n = record-left limits (a .text .now) (l .p .phase) (l .p .head) (l .p .mappings) (i .rows) (i .lines) _ (omega arith) h r in (
       accepted-as _ _ _ r n,
-      accepted-left 4096 statesOf _ _ (a .states .now) (l .states) r (h .states-are) (i .beyond .states-rest),
-      accepted-left 2048 codesOf _ _ (a .codes .now) (l .codes) r (m .codes-are) (i .beyond .codes-rest),
-      accepted-left 2048 infosOf _ _ (a .infos .now) (l .infos) r (m .infos-are) (i .beyond .infos-rest),
-      accepted-left 2048 orderedOf _ _ (a .order .now) (l .order) r (m .order-is) (i .beyond .order-rest),
+      accepted-left (needed limits) statesOf _ _ (a .states .now) (l .states) r (h .states-are) (i .beyond .states-rest),
+      accepted-left (limits .mappings) codesOf _ _ (a .codes .now) (l .codes) r (m .codes-are) (i .beyond .codes-rest),
+      accepted-left (limits .mappings) infosOf _ _ (a .infos .now) (l .infos) r (m .infos-are) (i .beyond .infos-rest),
+      accepted-left (limits .mappings) orderedOf _ _ (a .order .now) (l .order) r (m .order-is) (i .beyond .order-rest),
     )
 
 pub run-spec : {M : Type 1} → statement M

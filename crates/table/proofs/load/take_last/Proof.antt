@@ -1,10 +1,12 @@
-use Rattle.table.proofs.LineSteps.{same-taken, form-is, last-at}
+use Rattle.table.proofs.LineSteps.{same-taken, form-is, asks-at}
 use Rattle.table.specs.declared.load.Phase.the-variants.{Ended}
 use Rattle.table.specs.declared.mapping.Mapped.the-variants as coded
-use Rattle.table.specs.Load.{lastStep}
+use Rattle.table.specs.Numbers.{lowest}
+use Rattle.table.specs.Load.{lastAsks}
 use Rattle.table.specs.Mapping.{lastOf}
 use Rattle.table.specs.Limits.{limits}
-use mathlib.Core.Path.{refl}
+use Rattle.table.specs.Progress.{keysIn}
+use mathlib.Core.Path.{refl, ap}
 use borrow.Author.Needs.{needs}
 use Rattle.table.proofs.load.take_last.Statement.{statement}
 use Rattle.table.proofs.load.take_last.Tie as tie
@@ -28,24 +30,24 @@ enum-told-5 : tie.Need-enum-told-5
 enum-told-5 c = search needs
 
 returns : tie.Need-returns
-unfolding lastStep
-returns c = λ rows ls s x i o held. let a = c .before .before .before .before .args in last-at (a .h) rows ls (lastOf (a .line .now)) _ _ s x i o (form-is (lastOf (a .line .now)) _ coded.NoForm (c .before .before .read-last .ensures) (c .enum-told .given .1)) refl
+unfolding lowest
+returns c = λ rows ls m held. let a = c .before .before .before .before .args in asks-at limits _ _ _ m (ap (lastAsks (keysIn (a .h)) rows ls) (form-is (lastOf (a .line .now)) _ coded.NoForm (c .before .before .read-last .ensures) (c .enum-told .given .1))) refl
 
 returns-2 : tie.Need-returns-2
-unfolding lastStep
-returns-2 c = λ rows ls s x i o held. let a = c .before .before .before .before .args in last-at (a .h) rows ls (lastOf (a .line .now)) _ _ s x i o (form-is (lastOf (a .line .now)) _ coded.Reserved (c .before .before .read-last .ensures) (c .enum-told2 .given .1)) refl
+unfolding lowest
+returns-2 c = λ rows ls m held. let a = c .before .before .before .before .args in asks-at limits _ _ _ m (ap (lastAsks (keysIn (a .h)) rows ls) (form-is (lastOf (a .line .now)) _ coded.Reserved (c .before .before .read-last .ensures) (c .enum-told2 .given .1))) refl
 
 returns-3 : tie.Need-returns-3
-unfolding lastStep
-returns-3 c = λ rows ls s x i o held. let a = c .before .before .before .before .args in last-at (a .h) rows ls (lastOf (a .line .now)) _ _ s x i o (form-is (lastOf (a .line .now)) _ coded.Blank (c .before .before .read-last .ensures) (c .enum-told3 .given .1)) (same-taken limits Ended (a .h) (a .n) rows ls s x i o held)
+unfolding lowest
+returns-3 c = λ rows ls m held. let a = c .before .before .before .before .args in asks-at limits _ _ _ m (ap (lastAsks (keysIn (a .h)) rows ls) (form-is (lastOf (a .line .now)) _ coded.Blank (c .before .before .read-last .ensures) (c .enum-told3 .given .1))) (same-taken limits Ended (a .h) (a .n) rows ls m held)
 
 returns-4 : tie.Need-returns-4
-unfolding lastStep
-returns-4 c = λ rows ls s x i o held. let a = c .before .before .before .before .args in last-at (a .h) rows ls (lastOf (a .line .now)) _ _ s x i o (form-is (lastOf (a .line .now)) _ coded.End (c .before .before .read-last .ensures) (c .enum-told4 .given .1)) refl
+unfolding lowest
+returns-4 c = λ rows ls m held. let a = c .before .before .before .before .args in asks-at limits _ _ _ m (ap (lastAsks (keysIn (a .h)) rows ls) (form-is (lastOf (a .line .now)) _ coded.End (c .before .before .read-last .ensures) (c .enum-told4 .given .1))) refl
 
 returns-5 : tie.Need-returns-5
-unfolding lastStep
-returns-5 c = λ rows ls s x i o held. let a = c .before .before .before .before .args in let w = form-is (lastOf (a .line .now)) _ _ (c .before .before .read-last .ensures) (c .enum-told5 .given .1) in last-at (a .h) rows ls (lastOf (a .line .now)) _ _ s x i o (w .1 .0) refl
+unfolding lowest
+returns-5 c = λ rows ls m held. let a = c .before .before .before .before .args in let w = form-is (lastOf (a .line .now)) _ _ (c .before .before .read-last .ensures) (c .enum-told5 .given .1) in asks-at limits _ _ _ m (ap (lastAsks (keysIn (a .h)) rows ls) (w .1 .0)) refl
 
 pub take-last-spec : {M : Type 1} → statement M
 take-last-spec =

@@ -1,7 +1,11 @@
 use Rattle.table.proofs.HeaderSteps.{none-held}
-use Rattle.table.proofs.LineSteps.{phase-at, beyond-states}
-use Rattle.table.specs.Load.{phaseStep}
-use mathlib.Core.Path.{refl}
+use Rattle.table.proofs.LineSteps.{asks-at, beyond-states}
+use Rattle.table.specs.Limits.{limits}
+use Rattle.table.specs.Slices.{slices}
+use Rattle.table.specs.Load.{phaseAsks}
+use Rattle.table.specs.Progress.{keysIn}
+use Rattle.table.specs.declared.load.Phase.{Phase}
+use mathlib.Core.Path.{refl, ap}
 use borrow.Author.Needs.{needs}
 use Rattle.table.proofs.load.take_line.Statement.{statement}
 use Rattle.table.proofs.load.take_line.Tie as tie
@@ -28,8 +32,7 @@ same-length : tie.Need-same-length
 same-length c = search needs
 
 returns : tie.Need-returns
-unfolding phaseStep
-returns c = let a = c .before .before .before .before .before .before .before .before .before .before .before .before .args in (λ rows ls held. phase-at (a .p .phase) _ (a .p .head) rows ls (a .line .now) _ _ _ _ _ (c .before .before .before .before .enum-told .given .1) (c .before .before .take-header .ensures .0 rows (a .codes .now) (a .infos .now) (a .order .now) (none-held (a .p .head) (a .p .mappings) rows ls (a .states .now) (a .codes .now) (a .infos .now) (a .order .now) (c .before .before .before .before .before .before .before .before .before .before .before .before .pre .2 (c .before .before .before .before .enum-told .given .1)) held)), beyond-states (a .states .now) _ (a .codes .now) (a .infos .now) (a .order .now) (c .before .before .take-header .ensures .1))
+returns c = let a = c .before .before .before .before .before .before .before .before .before .before .before .before .args in (λ rows ls held. asks-at limits _ _ _ _ (ap (λ (p : Phase). phaseAsks limits p (keysIn (a .p .head)) rows ls (a .line .now)) (c .before .before .before .before .enum-told .given .1)) (c .before .before .take-header .ensures .0 rows (a .codes .now) (a .infos .now) (a .order .now) (none-held limits (a .p .head) (a .p .mappings) rows ls (slices (a .states .now) (a .codes .now) (a .infos .now) (a .order .now)) (c .before .before .before .before .before .before .before .before .before .before .before .before .pre .2 (c .before .before .before .before .enum-told .given .1)) held)), beyond-states limits (a .states .now) _ (a .codes .now) (a .infos .now) (a .order .now) (c .before .before .take-header .ensures .1))
 
 same-length-2 : tie.Need-same-length-2
 same-length-2 c = search needs
@@ -44,12 +47,10 @@ same-length-5 : tie.Need-same-length-5
 same-length-5 c = search needs
 
 returns-2 : tie.Need-returns-2
-unfolding phaseStep
-returns-2 c = let a = c .before .before .before .before .before .before .before .before .before .before .before .before .before .before .before .before .before .before .before .args in (λ rows ls held. phase-at (a .p .phase) _ (a .p .head) rows ls (a .line .now) _ _ _ _ _ (c .before .before .before .before .before .before .before .before .before .before .before .enum-told2 .given .1) (c .before .before .before .before .before .before .take-mapping .ensures .0 rows ls held), c .before .before .before .before .before .before .take-mapping .ensures .1)
+returns-2 c = let a = c .before .before .before .before .before .before .before .before .before .before .before .before .before .before .before .before .before .before .before .args in (λ rows ls held. asks-at limits _ _ _ _ (ap (λ (p : Phase). phaseAsks limits p (keysIn (a .p .head)) rows ls (a .line .now)) (c .before .before .before .before .before .before .before .before .before .before .before .enum-told2 .given .1)) (c .before .before .before .before .before .before .take-mapping .ensures .0 rows ls held), c .before .before .before .before .before .before .take-mapping .ensures .1)
 
 returns-3 : tie.Need-returns-3
-unfolding phaseStep
-returns-3 c = let a = c .before .before .before .before .before .before .before .before .before .args in (λ rows ls held. phase-at (a .p .phase) _ (a .p .head) rows ls (a .line .now) _ _ _ _ _ (c .before .enum-told3 .given .1) (c .take-last .ensures rows ls (a .states .now) (a .codes .now) (a .infos .now) (a .order .now) held), beyond-states (a .states .now) (a .states .now) (a .codes .now) (a .infos .now) (a .order .now) refl)
+returns-3 c = let a = c .before .before .before .before .before .before .before .before .before .args in (λ rows ls held. asks-at limits _ _ _ _ (ap (λ (p : Phase). phaseAsks limits p (keysIn (a .p .head)) rows ls (a .line .now)) (c .before .enum-told3 .given .1)) (c .take-last .ensures rows ls (slices (a .states .now) (a .codes .now) (a .infos .now) (a .order .now)) held), beyond-states limits (a .states .now) (a .states .now) (a .codes .now) (a .infos .now) (a .order .now) refl)
 
 pub take-line-spec : {M : Type 1} → statement M
 take-line-spec =

@@ -11,19 +11,20 @@ use Rattle.table.proofs.states.cut_on.Statement.{statement}
 use Rattle.table.proofs.states.cut_on.Tie as tie
 
 abbrev Inv-loop : tie.InvT-loop
-Inv-loop states row s from at-row₀ at₀ at-row at = (cutFrom (stepAt states) (4 - at) at-row at (drop at s) ≡ cutFrom (stepAt states) (4 - from) row from (drop from s)) × (at ≤ 4)
+Inv-loop states row s from at-row₀ at₀ at-row at =
+    ((first : ℕ) → cutFrom (stepAt states) first (4 - at) at-row at (drop at s) ≡ cutFrom (stepAt states) first (4 - from) row from (drop from s)) × (at ≤ 4)
 
 abbrev μ-loop : tie.MeasureT-loop
 μ-loop states row s from at-row₀ at₀ at-row at = 4 - at
 
 loop-holds : tie.Need-loop-holds Inv-loop μ-loop
-loop-holds c = (refl, omega arith)
+loop-holds c = ((λ first. refl), omega arith)
 
 returns : tie.Need-returns Inv-loop μ-loop
 returns c =
     let q = c .before .before .loop in
     let a = c .before .before .before .before .before .args in
-    sym (cut-end (stepAt (a .states .now)) (4 - q .at) (q .at-row) (q .at) (a .s .now) (λ e. omega arith) (c .if1 .taken)) ∙ q .inv .0
+    λ first. sym (cut-end (stepAt (a .states .now)) first (4 - q .at) (q .at-row) (q .at) (a .s .now) (λ e. omega arith) (c .if1 .taken)) ∙ q .inv .0 first
 
 shared-slice-read-step-at : tie.Need-shared-slice-read-step-at Inv-loop μ-loop
 shared-slice-read-step-at c = search needs
@@ -41,7 +42,7 @@ returns-2 : tie.Need-returns-2 Inv-loop μ-loop
 returns-2 c =
     let q = c .before .before .before .before .before .before .loop in
     let a = c .before .before .before .before .before .before .before .before .before .args in
-    sym (cut-here (stepAt (a .states .now)) (4 - q .at) (q .at-row) (q .at) (a .s .now) Illegal (λ e. omega arith) (omega arith) (sym (c .before .before .step-at .ensures) ∙ c .enum-told .given .1)) ∙ q .inv .0
+    λ first. sym (cut-here (stepAt (a .states .now)) first (4 - q .at) (q .at-row) (q .at) (a .s .now) Illegal (λ e. omega arith) (omega arith) (sym (c .before .before .step-at .ensures) ∙ c .enum-told .given .1)) ∙ q .inv .0 first
 
 enum-known-e : tie.Need-enum-known-e Inv-loop μ-loop
 enum-known-e c = search needs
@@ -53,7 +54,7 @@ returns-3 : tie.Need-returns-3 Inv-loop μ-loop
 returns-3 c =
     let q = c .before .before .before .before .before .before .before .loop in
     let a = c .before .before .before .before .before .before .before .before .before .before .args in
-    sym (cut-here (stepAt (a .states .now)) (4 - q .at) (q .at-row) (q .at) (a .s .now) (Ends (c .before .e .given .0 .0)) (λ e. omega arith) (omega arith) (sym (c .before .before .before .step-at .ensures) ∙ c .before .e .given .1)) ∙ q .inv .0
+    λ first. sym (cut-here (stepAt (a .states .now)) first (4 - q .at) (q .at-row) (q .at) (a .s .now) (Ends (c .before .e .given .0 .0)) (λ e. omega arith) (omega arith) (sym (c .before .before .before .step-at .ensures) ∙ c .before .e .given .1)) ∙ q .inv .0 first
 
 enum-known-n : tie.Need-enum-known-n Inv-loop μ-loop
 enum-known-n c = search needs
@@ -69,15 +70,18 @@ loop-again c =
     let q = c .before .before .before .before .before .before .before .loop in
     let l = c .before .before .before .before .before .before .before .before .before .before .args .states .now in
     let a = c .before .before .before .before .before .before .before .before .before .before .args in
-    let m : 4 - (q .at + 1) ≡ 4 - q .at - 1 = omega arith in
-    let h = cut-here (stepAt l) (4 - q .at) (q .at-row) (q .at) (a .s .now) (Leads (c .before .n .given .0 .0)) (λ e. omega arith) (omega arith) (sym (c .before .before .before .step-at .ensures) ∙ c .before .n .given .1) in
-    (ap (λ (f : ℕ). cutFrom (stepAt l) f (c .before .n .given .0 .0) (q .at + 1) (drop (q .at + 1) (a .s .now))) m ∙ sym h ∙ q .inv .0, omega arith)
+    let m : 4 - (q .at + 1) ≡ 4 - q .at - 1 = omega arith in (
+      (λ first. ap (λ (f : ℕ). cutFrom (stepAt l) first f (c .before .n .given .0 .0) (q .at + 1) (drop (q .at + 1) (a .s .now))) m
+          ∙ sym (cut-here (stepAt l) first (4 - q .at) (q .at-row) (q .at) (a .s .now) (Leads (c .before .n .given .0 .0)) (λ e. omega arith) (omega arith) (sym (c .before .before .before .step-at .ensures) ∙ c .before .n .given .1))
+          ∙ q .inv .0 first),
+      omega arith,
+    )
 
 returns-4 : tie.Need-returns-4 Inv-loop μ-loop
 returns-4 c =
     let q = c .before .loop in
     let a = c .before .before .before .before .args in
-    sym (cut-none (stepAt (a .states .now)) (4 - q .at) (q .at-row) (q .at) (drop (q .at) (a .s .now)) (omega arith)) ∙ q .inv .0
+    λ first. sym (cut-none (stepAt (a .states .now)) first (4 - q .at) (q .at-row) (q .at) (drop (q .at) (a .s .now)) (omega arith)) ∙ q .inv .0 first
 
 pub cut-on-spec : {M : Type 1} → statement M
 cut-on-spec =

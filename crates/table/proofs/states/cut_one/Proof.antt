@@ -11,7 +11,7 @@ use Rattle.table.proofs.states.cut_one.Tie as tie
 returns : tie.Need-returns
 returns c =
     let a = c .before .before .before .args in
-    sym (cut-end (stepAt (a .states .now)) 4 (a .row) 0 (a .s .now) (λ e. omega arith) (omega arith))
+    sym (cut-end (stepAt (a .states .now)) (a .row) 4 (a .row) 0 (a .s .now) (λ e. omega arith) (omega arith))
 
 shared-slice-read-step-at : tie.Need-shared-slice-read-step-at
 shared-slice-read-step-at c = search needs
@@ -34,17 +34,17 @@ cut-on-requires c κs = search needs
 returns-2 : tie.Need-returns-2
 returns-2 c =
     let a = c .before .before .before .before .before .before .before .args in
-    sym (cut-here (stepAt (a .states .now)) 4 (a .row) 0 (a .s .now) Illegal (λ e. omega arith) (omega arith) (sym (c .before .before .step-at .ensures) ∙ c .enum-told .given .1))
+    sym (cut-here (stepAt (a .states .now)) (a .row) 4 (a .row) 0 (a .s .now) Illegal (λ e. omega arith) (omega arith) (sym (c .before .before .step-at .ensures) ∙ c .enum-told .given .1))
 
 returns-3 : tie.Need-returns-3
 returns-3 c =
     let a = c .before .before .before .before .before .before .before .before .args in
-    sym (cut-here (stepAt (a .states .now)) 4 (a .row) 0 (a .s .now) (Ends (c .before .e .given .0 .0)) (λ e. omega arith) (omega arith) (sym (c .before .before .before .step-at .ensures) ∙ c .before .e .given .1))
+    sym (cut-here (stepAt (a .states .now)) (a .row) 4 (a .row) 0 (a .s .now) (Ends (c .before .e .given .0 .0)) (λ e. omega arith) (omega arith) (sym (c .before .before .before .step-at .ensures) ∙ c .before .e .given .1))
 
 returns-4 : tie.Need-returns-4
 returns-4 c =
     let a = c .before .before .before .before .before .before .before .before .before .args in
-    c .cut-on .ensures ∙ sym (cut-here (stepAt (a .states .now)) 4 (a .row) 0 (a .s .now) (Leads (c .before .before .n .given .0 .0)) (λ e. omega arith) (omega arith) (sym (c .before .before .before .before .step-at .ensures) ∙ c .before .before .n .given .1))
+    c .cut-on .ensures (a .row) ∙ sym (cut-here (stepAt (a .states .now)) (a .row) 4 (a .row) 0 (a .s .now) (Leads (c .before .before .n .given .0 .0)) (λ e. omega arith) (omega arith) (sym (c .before .before .before .before .step-at .ensures) ∙ c .before .before .n .given .1))
 
 pub cut-one-spec : {M : Type 1} → statement M
 cut-one-spec =

@@ -5,15 +5,16 @@ use native.Mathlib.Omega.{arith}
 use borrow.Author.Needs.{needs}
 use borrow.Author.Tests.{not-true, not-false}
 use lib.ListN.{length, getD, length-set}
+use Rattle.table.specs.Limits.{limits}
 use Rattle.table.proofs.Marking.{Levelled, level-none, level-skip, level-clear, level-all}
 use Rattle.table.proofs.states.level.Statement.{statement}
 use Rattle.table.proofs.states.level.Tie as tie
 
 abbrev Inv-loop : tie.InvT-loop
-Inv-loop marks rows below out₀ count j₀ out j = Levelled marks below out j × (length out ≡ 16) × (j ≤ rows * 16)
+Inv-loop marks rows below out₀ count j₀ out j = Levelled marks below out j × (length out ≡ limits .rows) × (j ≤ rows * limits .rows)
 
 abbrev μ-loop : tie.MeasureT-loop
-μ-loop marks rows below out₀ count j₀ out j = rows * 16 - j
+μ-loop marks rows below out₀ count j₀ out j = rows * limits .rows - j
 
 mul-count : tie.Need-mul-count Inv-loop μ-loop
 mul-count c = search needs
@@ -72,7 +73,7 @@ returns : tie.Need-returns Inv-loop μ-loop
 returns c =
     let q = c .before .loop in
     let a = c .before .before .args in
-    let e : q .j ≡ a .rows * 16 = omega arith in
+    let e : q .j ≡ a .rows * (limits .rows) = omega arith in
     level-all (a .marks .now) (a .t3) (q .out) (a .rows) (rw e at (q .inv .0))
 
 pub level-spec : {M : Type 1} → statement M

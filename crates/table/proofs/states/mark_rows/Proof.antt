@@ -3,26 +3,28 @@ use mathlib.Core.Path.{_≡_, refl, sym, ap, _∙_}
 use native.Mathlib.Omega.{arith}
 use borrow.Author.Needs.{needs}
 use lib.ListN.{length, getD, take, drop, length-set}
-use Rattle.lists.proofs.Laws.{clash}
+use Rattle.table.specs.Limits.{limits}
+use Rattle.table.specs.Cells.{cellStep}
 use Rattle.table.specs.Rules.{allOf}
 use Rattle.table.specs.Valid.{stateOk}
-use Rattle.table.proofs.RowLaws.{step-far, small-leads, small-ok, free-bad, far-bad, near-ok, allOf-step, allOf-end}
-use Rattle.table.proofs.Marking.{Seen, seen-none, seen-skip, seen-mark, seen-all}
+use Rattle.table.proofs.CellLaws.{cell-far}
+use Rattle.table.proofs.RowLaws.{small-ok, free-bad, far-bad, near-ok, allOf-step, allOf-end, small-never}
+use Rattle.table.proofs.Marking.{Seen, seen-none, seen-skip, seen-mark, seen-all, marks-none, marks-all}
 use Rattle.table.proofs.states.mark_rows.Statement.{statement}
 use Rattle.table.proofs.states.mark_rows.Tie as tie
 
 abbrev Inv-loop : tie.InvT-loop
-Inv-loop states rows marks₀ count i₀ marks i = (allOf (stateOk rows) (take (rows * 256 - i) (drop i states)) ≡ allOf (stateOk rows) (take (rows * 256) states)) × Seen marks states i × (length marks ≡ 256) × (i ≤ rows * 256)
+Inv-loop states rows none marks₀ count i₀ marks i = (allOf (stateOk rows) (take (rows * 256 - i) (drop i states)) ≡ allOf (stateOk rows) (take (rows * 256) states)) × Seen marks states i × (length marks ≡ 256) × (i ≤ rows * 256)
 
 abbrev μ-loop : tie.MeasureT-loop
-μ-loop states rows marks₀ count i₀ marks i = rows * 256 - i
+μ-loop states rows none marks₀ count i₀ marks i = rows * 256 - i
 
 loop-holds : tie.Need-loop-holds Inv-loop μ-loop
 loop-holds c =
     let l = c .args .states .now in
     let a = c .args in
     let e : a .rows * 256 - 0 ≡ a .rows * 256 = omega arith in
-    (ap (λ (n : ℕ). allOf (stateOk (a .rows)) (take n l)) e, seen-none 256 l, refl, omega arith)
+    (ap (λ (n : ℕ). allOf (stateOk (a .rows)) (take n l)) e, seen-none (limits .rows * limits .rows) l, refl, omega arith)
 
 mul-loop : tie.Need-mul-loop Inv-loop μ-loop
 mul-loop c = search needs
@@ -45,7 +47,7 @@ loop-again c =
     let l = c .before .before .before .before .args .states .now in
     let a = c .before .before .before .before .args in
     let e : ℕ = getD l (q .i) 0 in
-    (sym (allOf-step (stateOk (a .rows)) l (q .i) (a .rows * 256) (omega arith) (omega arith) ∙ rw (small-ok (a .rows) e (c .if1 .taken))) ∙ q .inv .0, seen-skip (q .marks) l (q .i) (λ w. small-leads w e (c .if1 .taken)) (q .inv .1), q .inv .2, omega arith)
+    (sym (allOf-step (stateOk (a .rows)) l (q .i) (a .rows * 256) (omega arith) (omega arith) ∙ rw (small-ok (a .rows) e (c .if1 .taken))) ∙ q .inv .0, seen-skip (q .marks) l (q .i) (λ k. small-never k e (c .if1 .taken)) (q .inv .1), q .inv .2, omega arith)
 
 returns : tie.Need-returns Inv-loop μ-loop
 returns c =
@@ -53,7 +55,7 @@ returns c =
     let l = c .before .before .before .before .before .args .states .now in
     let a = c .before .before .before .before .before .args in
     let e : ℕ = getD l (q .i) 0 in
-    (sym (allOf-step (stateOk (a .rows)) l (q .i) (a .rows * 256) (omega arith) (omega arith) ∙ rw (free-bad (a .rows) e (omega arith) (omega arith))) ∙ q .inv .0, λ t. absurd (clash t refl))
+    marks-none _ _ (sym (allOf-step (stateOk (a .rows)) l (q .i) (a .rows * 256) (omega arith) (omega arith) ∙ rw (free-bad (a .rows) e (omega arith) (omega arith))) ∙ q .inv .0)
 
 sub-k : tie.Need-sub-k Inv-loop μ-loop
 sub-k c = search needs
@@ -67,7 +69,7 @@ returns-2 c =
     let l = c .before .before .before .before .before .before .args .states .now in
     let a = c .before .before .before .before .before .before .args in
     let e : ℕ = getD l (q .i) 0 in
-    (sym (allOf-step (stateOk (a .rows)) l (q .i) (a .rows * 256) (omega arith) (omega arith) ∙ rw (far-bad (a .rows) e (omega arith) (omega arith))) ∙ q .inv .0, λ t. absurd (clash t refl))
+    marks-none _ _ (sym (allOf-step (stateOk (a .rows)) l (q .i) (a .rows * 256) (omega arith) (omega arith) ∙ rw (far-bad (a .rows) e (omega arith) (omega arith))) ∙ q .inv .0)
 
 mul-marks : tie.Need-mul-marks Inv-loop μ-loop
 mul-marks c = search needs
@@ -90,7 +92,7 @@ loop-again-2 c =
     let l = c .before .before .before .before .before .before .args .states .now in
     let a = c .before .before .before .before .before .before .args in
     let e : ℕ = getD l (q .i) 0 in
-    (sym (allOf-step (stateOk (a .rows)) l (q .i) (a .rows * 256) (omega arith) (omega arith) ∙ rw (near-ok (a .rows) e (omega arith) (omega arith))) ∙ q .inv .0, seen-mark (q .marks) l (q .i) (e - 16) (q .inv .2) (omega arith) (omega arith) (step-far e (omega arith)) (q .inv .1), simp length-set (q .inv .2), omega arith)
+    (sym (allOf-step (stateOk (a .rows)) l (q .i) (a .rows * 256) (omega arith) (omega arith) ∙ rw (near-ok (a .rows) e (omega arith) (omega arith))) ∙ q .inv .0, seen-mark (q .marks) l (q .i) (e - 16) (q .inv .2) (omega arith) (omega arith) (ap cellStep (cell-far e (omega arith))) (q .inv .1), simp length-set (q .inv .2), omega arith)
 
 returns-3 : tie.Need-returns-3 Inv-loop μ-loop
 returns-3 c =
@@ -98,7 +100,7 @@ returns-3 c =
     let l = c .before .before .args .states .now in
     let a = c .before .before .args in
     let e : q .i ≡ a .rows * 256 = omega arith in
-    (sym (allOf-end (stateOk (a .rows)) l (q .i) (a .rows * 256) (omega arith)) ∙ q .inv .0, λ t. seen-all (q .marks) l (a .rows) (omega arith) (rw e at (q .inv .1)))
+    marks-all _ _ _ (sym (allOf-end (stateOk (a .rows)) l (q .i) (a .rows * 256) (omega arith)) ∙ q .inv .0) (seen-all (q .marks) l (a .rows) (q .inv .2) (rw e at (q .inv .1)))
 
 pub mark-rows-spec : {M : Type 1} → statement M
 mark-rows-spec =

@@ -4,20 +4,21 @@ use mathlib.Core.Bool.{false}
 use native.Mathlib.Omega.{arith}
 use borrow.Author.Needs.{needs}
 use lib.ListN.{getD, getD-replicate}
+use Rattle.table.specs.Limits.{limits}
 use Rattle.table.specs.LeadMarks.{markedWithin}
 use Rattle.table.proofs.Marking.{marked-step}
 use Rattle.table.proofs.states.marked_within.Statement.{statement}
 use Rattle.table.proofs.states.marked_within.Tie as tie
 
 abbrev Inv-loop : tie.InvT-loop
-Inv-loop marks rows max reach₀ d₀ reach d = ((k : ℕ) → k < 16 → getD reach k false ≡ markedWithin rows marks d k) × (d ≤ max)
+Inv-loop marks rows max reach₀ d₀ reach d = ((k : ℕ) → k < limits .rows → getD reach k false ≡ markedWithin rows marks d k) × (d ≤ max)
 
 abbrev μ-loop : tie.MeasureT-loop
 μ-loop marks rows max reach₀ d₀ reach d = max - d
 
 loop-holds : tie.Need-loop-holds Inv-loop μ-loop
 unfolding markedWithin
-loop-holds c = (λ k h. getD-replicate 16 k false false h, omega arith)
+loop-holds c = (λ k h. getD-replicate (limits .rows) k false false h, omega arith)
 
 level-requires : tie.Need-level-requires Inv-loop μ-loop
 level-requires c κs = search needs

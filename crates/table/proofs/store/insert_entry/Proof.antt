@@ -44,10 +44,10 @@ place-point-requires : tie.Need-place-point-requires
 place-point-requires c κs = let a = c .before .before .before .before .before .before .before .before .before .args in point-needs (a .n) (a .codes .now) (a .infos .now) (a .order .now) (mk (a .c) (a .i)) (c .before .before .before .before .before .before .before .before .before .pre) .0
 
 renumber-requires : tie.Need-renumber-requires
-renumber-requires c κs = let a = c .before .before .before .before .before .before .before .before .before .before .before .args in renumber-needs (a .n) (a .codes .now) (a .infos .now) (a .order .now) (mk (a .c) (a .i)) (c .before .before .before .before .before .before .before .before .before .before .before .pre)
+renumber-requires c κs = let a = c .before .before .before .before .before .before .before .before .before .before .before .args in renumber-needs (a .n) (a .codes .now) (a .infos .now) (a .order .now) (mk (a .c) (a .i)) (c .before .before .before .before .before .before .before .before .before .before .before .pre) (omega arith)
 
 cast-shift-in : tie.Need-cast-shift-in
-cast-shift-in c = let a = c .before .before .before .before .before .before .before .before .before .before .before .before .before .before .before .args in let u = length-take-le (a .n) (a .codes .now) (omega (arith, c .before .before .before .before .before .before .before .before .before .before .before .before .before .before .before .pre .codes-room)) in let v = length-take-le (a .n) (a .order .now) (omega (arith, c .before .before .before .before .before .before .before .before .before .before .before .before .before .before .before .pre .order-room)) in omega (arith, c .before .before .before .before .before .before .before .before .before .place .ensures .0, c .before .before .before .before .before .before .before .before .before .before .before .before .before .before .before .pre .small)
+cast-shift-in c = let a = c .before .before .before .before .before .before .before .before .before .before .before .before .before .before .before .args in let u = length-take-le (a .n) (a .codes .now) (omega (arith, c .before .before .before .before .before .before .before .before .before .before .before .before .before .before .before .pre .codes-room)) in let v = length-take-le (a .n) (a .order .now) (omega (arith, c .before .before .before .before .before .before .before .before .before .before .before .before .before .before .before .pre .order-room)) in omega (arith, c .before .before .before .before .before .before .before .before .before .place .ensures .0)
 
 shift-in-requires : tie.Need-shift-in-requires
 shift-in-requires c κs = let a = c .before .before .before .before .before .before .before .before .before .before .before .before .before .before .before .args in let u = length-take-le (a .n) (a .codes .now) (omega (arith, c .before .before .before .before .before .before .before .before .before .before .before .before .before .before .before .pre .codes-room)) in let v = length-take-le (a .n) (a .order .now) (omega (arith, c .before .before .before .before .before .before .before .before .before .before .before .before .before .before .before .pre .order-room)) in (omega (arith, c .before .before .before .before .before .place-point .ensures .0), omega (arith, c .before .before .before .before .before .before .before .before .before .before .before .before .before .before .before .pre .order-room))
@@ -68,7 +68,7 @@ same-length-3 : tie.Need-same-length-3
 same-length-3 c = search needs
 
 returns : tie.Need-returns
-returns c = let a = c .before .before .before .before .before .before .before .before .before .before .before .before .before .before .before .before .before .before .before .before .before .before .before .before .before .before .args in let u = length-take-le (a .n) (a .codes .now) (omega (arith, c .before .before .before .before .before .before .before .before .before .before .before .before .before .before .before .before .before .before .before .before .before .before .before .before .before .before .pre .codes-room)) in let v = length-take-le (a .n) (a .order .now) (omega (arith, c .before .before .before .before .before .before .before .before .before .before .before .before .before .before .before .before .before .before .before .before .before .before .before .before .before .before .pre .order-room)) in let p = c .before .before .before .before .before .before .before .before .before .before .before .before .before .before .before .before .before .before .before .before .place in let z = c .before .before .before .before .before .before .before .before .before .before .before .before .before .before .before .before .place-point in let pn = place-needs (a .n) (a .codes .now) (a .infos .now) (a .order .now) (mk (a .c) (a .i)) (c .before .before .before .before .before .before .before .before .before .before .before .before .before .before .before .before .before .before .before .before .before .before .before .before .before .before .pre) in let zn = point-needs (a .n) (a .codes .now) (a .infos .now) (a .order .now) (mk (a .c) (a .i)) (c .before .before .before .before .before .before .before .before .before .before .before .before .before .before .before .before .before .before .before .before .before .before .before .before .before .before .pre) in let pe = p .ensures .1 (pn .1) (pn .2) in let ze = z .ensures .1 (zn .1) (zn .2) (zn .3) in (c .before .before .before .before .before .before .shift-in2 .ensures ∙ codes-done (a .n) (a .codes .now) (a .infos .now) (a .order .now) (mk (a .c) (a .i)) (c .before .before .before .before .before .before .before .before .before .before .before .before .before .before .before .before .before .before .before .before .before .before .before .before .before .before .pre) (p .result) (omega (arith, p .ensures .0)) pe, c .before .before .shift-in3 .ensures ∙ infos-done (a .n) (a .codes .now) (a .infos .now) (a .order .now) (mk (a .c) (a .i)) (c .before .before .before .before .before .before .before .before .before .before .before .before .before .before .before .before .before .before .before .before .before .before .before .before .before .before .pre) (p .result) (omega (arith, p .ensures .0)) pe, c .before .before .before .before .before .before .before .before .before .before .shift-in .ensures ∙ order-done (a .n) (a .codes .now) (a .infos .now) (a .order .now) (mk (a .c) (a .i)) (c .before .before .before .before .before .before .before .before .before .before .before .before .before .before .before .before .before .before .before .before .before .before .before .before .before .before .pre) (p .result) (z .result) _ (omega (arith, z .ensures .0)) pe ze (c .before .before .before .before .before .before .before .before .before .before .before .before .before .before .renumber .ensures))
+returns c = let a = c .before .before .before .before .before .before .before .before .before .before .before .before .before .before .before .before .before .before .before .before .before .before .before .before .before .before .args in let u = length-take-le (a .n) (a .codes .now) (omega (arith, c .before .before .before .before .before .before .before .before .before .before .before .before .before .before .before .before .before .before .before .before .before .before .before .before .before .before .pre .codes-room)) in let v = length-take-le (a .n) (a .order .now) (omega (arith, c .before .before .before .before .before .before .before .before .before .before .before .before .before .before .before .before .before .before .before .before .before .before .before .before .before .before .pre .order-room)) in let p = c .before .before .before .before .before .before .before .before .before .before .before .before .before .before .before .before .before .before .before .before .place in let z = c .before .before .before .before .before .before .before .before .before .before .before .before .before .before .before .before .place-point in let pn = place-needs (a .n) (a .codes .now) (a .infos .now) (a .order .now) (mk (a .c) (a .i)) (c .before .before .before .before .before .before .before .before .before .before .before .before .before .before .before .before .before .before .before .before .before .before .before .before .before .before .pre) in let zn = point-needs (a .n) (a .codes .now) (a .infos .now) (a .order .now) (mk (a .c) (a .i)) (c .before .before .before .before .before .before .before .before .before .before .before .before .before .before .before .before .before .before .before .before .before .before .before .before .before .before .pre) in let pe = p .ensures .1 (pn .1) in let ze = z .ensures .1 (zn .1) (zn .2) in (c .before .before .before .before .before .before .shift-in2 .ensures ∙ codes-done (a .n) (a .codes .now) (a .infos .now) (a .order .now) (mk (a .c) (a .i)) (c .before .before .before .before .before .before .before .before .before .before .before .before .before .before .before .before .before .before .before .before .before .before .before .before .before .before .pre) (p .result) (omega (arith, p .ensures .0)) pe, c .before .before .shift-in3 .ensures ∙ infos-done (a .n) (a .codes .now) (a .infos .now) (a .order .now) (mk (a .c) (a .i)) (c .before .before .before .before .before .before .before .before .before .before .before .before .before .before .before .before .before .before .before .before .before .before .before .before .before .before .pre) (p .result) (omega (arith, p .ensures .0)) pe, c .before .before .before .before .before .before .before .before .before .before .shift-in .ensures ∙ order-done (a .n) (a .codes .now) (a .infos .now) (a .order .now) (mk (a .c) (a .i)) (c .before .before .before .before .before .before .before .before .before .before .before .before .before .before .before .before .before .before .before .before .before .before .before .before .before .before .pre) (p .result) (z .result) _ (omega (arith, z .ensures .0)) pe ze (c .before .before .before .before .before .before .before .before .before .before .before .before .before .before .renumber .ensures))
 
 pub insert-entry-spec : {M : Type 1} → statement M
 insert-entry-spec =

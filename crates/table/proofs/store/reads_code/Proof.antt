@@ -1,5 +1,5 @@
--- The definition's three tests, in its order; the length is compared with one more on either side.
-use Prim.Native.Nat.{_-_, _/_}
+-- The definition's three tests, in its order; the length that the code compares.
+use Prim.Native.Nat.{_+_, _/_}
 use mathlib.Core.Path.{_≡_}
 use Rattle.table.specs.Search.{readsCode}
 use Rattle.lists.proofs.Laws.{tests}
@@ -10,7 +10,7 @@ use Rattle.table.proofs.store.reads_code.Tie as tie
 
 returns : tie.Need-returns
 unfolding readsCode
-returns c = λ some. search tests
+returns c = search tests
 
 add-if2 : tie.Need-add-if2
 add-if2 c = search needs
@@ -18,15 +18,15 @@ add-if2 c = search needs
 returns-2 : tie.Need-returns-2
 unfolding readsCode
 returns-2 c =
-    λ some. let a = c .before .before .before .before .args in
-    let d : a .i / 16777216 ≡ a .code .len - 1 → ⊥ = λ e. omega (arith, c .if2 .taken) in
+    let a = c .before .before .before .before .args in
+    let d : a .i / 16777216 + 1 ≡ a .code .len → ⊥ = λ e. omega (arith, c .if2 .taken) in
     search tests
 
 returns-3 : tie.Need-returns-3
 unfolding readsCode
 returns-3 c =
-    λ some. let a = c .before .before .before .before .args in
-    let d : a .i / 16777216 ≡ a .code .len - 1 = omega (arith, c .if2 .left) in
+    let a = c .before .before .before .before .args in
+    let d : a .i / 16777216 + 1 ≡ a .code .len = omega (arith, c .if2 .left) in
     search tests
 
 pub reads-code-spec : {M : Type 1} → statement M

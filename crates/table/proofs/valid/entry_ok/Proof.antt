@@ -1,12 +1,17 @@
+-- The rank is tested first (`is_rank`), then the code.
 use Rattle.table.specs.Entry.{entryOk}
+use borrow.Author.Tests.{not-true, not-false}
+use mathlib.Core.Path.{sym, _∙_}
 use borrow.Author.Needs.{needs}
-use Rattle.lists.proofs.Laws.{tests}
 use Rattle.table.proofs.valid.entry_ok.Statement.{statement}
 use Rattle.table.proofs.valid.entry_ok.Tie as tie
 
+is-rank-requires : tie.Need-is-rank-requires
+is-rank-requires c κs = search needs
+
 returns : tie.Need-returns
 unfolding entryOk
-returns c = search tests
+returns c = rw (sym (c .before .is-rank .ensures) ∙ not-true _ (c .if1 .taken))
 
 add-is-padded : tie.Need-add-is-padded
 add-is-padded c = search needs
@@ -16,7 +21,7 @@ is-padded-requires c κs = search needs
 
 returns-2 : tie.Need-returns-2
 unfolding entryOk
-returns-2 c = rw (← c .is-padded .ensures) (search tests)
+returns-2 c = rw (sym (c .before .before .is-rank .ensures) ∙ not-false _ (c .before .if1 .left)) (c .is-padded .ensures)
 
 pub entry-ok-spec : {M : Type 1} → statement M
-entry-ok-spec = tie.close (tie.spec returns add-is-padded is-padded-requires returns-2)
+entry-ok-spec = tie.close (tie.spec is-rank-requires returns add-is-padded is-padded-requires returns-2)

@@ -1,0 +1,19 @@
+-- The definition's tests, in its order.
+use Rattle.lists.proofs.Laws.{tests}
+use Rattle.table.proofs.lookup.use_of.Statement.{statement}
+use Rattle.table.proofs.lookup.use_of.Tie as tie
+
+returns : tie.Need-returns
+returns c = search tests
+
+returns-2 : tie.Need-returns-2
+returns-2 c = search tests
+
+returns-3 : tie.Need-returns-3
+returns-3 c = search tests
+
+returns-4 : tie.Need-returns-4
+returns-4 c = search tests
+
+pub use-of-spec : {M : Type 1} → statement M
+use-of-spec = tie.close (tie.spec returns returns-2 returns-3 returns-4)

@@ -1,0 +1,108 @@
+// Look-up in a table's lent memory, from either side: the line that reads a code, and the line that says what becomes
+// of a code point.
+use crate::states::Code;
+use crate::valid::Record;
+ghost use mathlib.Core.Path.{_≡_};
+ghost use Rattle.table.specs.Entry.{mk};
+ghost use Rattle.table.specs.Lookup.{useIn, mappingIn, CodeFound, PointFound};
+
+// How a line is used, by its indicator: `|0`, `|1`, `|2`, `|3`.
+pub enum Use {
+    RoundTrip,
+    Fallback,
+    Substituted,
+    ReverseFallback,
+}
+
+// A mapping line as it was found: its code point, its code, and how it is used.
+pub struct Mapping {
+    pub point: u32,
+    pub code: Code,
+    pub used: Use,
+}
+
+// The line that was looked for, or that there is none.
+pub enum Found {
+    Line(Mapping),
+    Nothing,
+}
+
+// How a stored line is used, by its rank.
+fn use_of(rank: u32) -> Use
+    ensures { λ r. ⌜ r ≡ useIn rank ⌝ }
+{
+    if rank == 0 {
+        return Use::RoundTrip;
+    }
+    if rank == 1 {
+        return Use::ReverseFallback;
+    }
+    if rank == 2 {
+        return Use::Fallback;
+    }
+    Use::Substituted
+}
+
+// A stored line by its two numbers.
+fn mapping_of(bits: u32, info: u32) -> Mapping
+    ensures { λ r. ⌜ r ≡ mappingIn (mk bits info) ⌝ }
+{
+    Mapping {
+        point: info % 2097152,
+        code: Code {
+            bits: bits,
+            len: info / 16777216 + 1,
+        },
+        used: use_of(info / 2097152 % 8),
+    }
+}
+
+// The line that reads a code.
+pub fn find_code(rec: Record, codes: &[u32], infos: &[u32], code: Code) -> Found
+    ensures { λ r. ⌜ CodeFound rec (now (codes .entry)) (now (infos .entry)) code r ⌝ }
+{
+    let at = crate::store::code_place(codes, infos, rec.mappings, code);
+    if crate::store::reads_at(codes, infos, rec.mappings, code, at) {
+        return Found::Line(mapping_of(codes[at], infos[at]));
+    }
+    Found::Nothing
+}
+
+// The same, with one look at a place before the search: a line there that reads the code is the only one. Whatever the
+// place, the answer is the same; it is found sooner where the place is right.
+pub fn find_code_near(rec: Record, codes: &[u32], infos: &[u32], code: Code, at: usize) -> Found
+    ensures { λ r. ⌜ CodeFound rec (now (codes .entry)) (now (infos .entry)) code r ⌝ }
+{
+    if crate::store::reads_at(codes, infos, rec.mappings, code, at) {
+        return Found::Line(mapping_of(codes[at], infos[at]));
+    }
+    find_code(rec, codes, infos, code)
+}
+
+// The line that says what becomes of a code point.
+pub fn find_point(rec: Record, codes: &[u32], infos: &[u32], order: &[u32], point: u32) -> Found
+    ensures { λ r. ⌜ PointFound rec (now (codes .entry)) (now (infos .entry)) (now (order .entry)) point r ⌝ }
+{
+    let at = crate::store::point_place(codes, infos, order, rec.mappings, point);
+    if crate::store::writes_at(codes, infos, rec.mappings, point, at) {
+        return Found::Line(mapping_of(codes[at], infos[at]));
+    }
+    Found::Nothing
+}
+
+// The same, with one look at a place of the first order before the search.
+pub fn find_point_near(
+    rec: Record,
+    codes: &[u32],
+    infos: &[u32],
+    order: &[u32],
+    point: u32,
+    at: usize,
+) -> Found
+    ensures { λ r. ⌜ PointFound rec (now (codes .entry)) (now (infos .entry)) (now (order .entry)) point r ⌝ }
+{
+    if crate::store::writes_at(codes, infos, rec.mappings, point, at) {
+        return Found::Line(mapping_of(codes[at], infos[at]));
+    }
+    find_point(rec, codes, infos, order, point)
+}
