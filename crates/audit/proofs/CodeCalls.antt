@@ -7,11 +7,11 @@ use mathlib.Core.Logic.{_⊎_, inl, inr, _↔_}
 use mathlib.Core.List.{List, [], _∷_, map}
 use lib.Dec.{eqb}
 use lib.ListN.{length}
-use borrow.Author.Tests.{eq-eqb, ne-eqb}
+use borrow.Author.Tests.{ne-eqb}
 use Rattle.lists.specs.Order.{All, In}
 use Rattle.lists.specs.Paging.{Listing, notedBy, left, upTo as upToIn, pageFrom, Place}
 use Rattle.lists.specs.Calls.{Call, Chain, lastPosition, AsListed, Tells, PagedCalls}
-use Rattle.lists.proofs.Laws.{clash, both}
+use Rattle.lists.proofs.Laws.{both}
 use Rattle.lists.proofs.Cases.{pick-yes, pick-no}
 use Rattle.lists.proofs.Order.{all-map, all-in, map-all}
 use Rattle.lists.proofs.Calls.{paged-calls}
@@ -25,6 +25,7 @@ use Rattle.table.specs.declared.states.Code.{Code}
 use Rattle.table.proofs.Packing.{unpack, packed-padded}
 use Rattle.table.proofs.Cuts.{no-ends-zero}
 use Rattle.table.proofs.KeptSizes.{kept-sizes}
+use Rattle.table.proofs.ValidLaws.{code-length}
 use Rattle.table.proofs.CodeList.{CompleteCode, codes-are-codes, codes-whole, rising-codes}
 use Rattle.table.proofs.CodePositions.{none-code, code-none, those-after, those-up-to}
 use Rattle.audit.specs.Audit.{Finding, Answer, numberOf, completeCodes, plainList, listing, looked, isPosition, auditOn}
@@ -43,9 +44,6 @@ module _ (t : Table) (fallback : Bool) where
 
   is-code : (s : List ℕ) → (endKind (stepsOf t) 0 s ≡ 0 → ⊥) → isCode (stepsOf t) 0 s ≡ true
   is-code s h = pick-no (eqb (endKind (stepsOf t) 0 s) 0) false true (ne-eqb (endKind (stepsOf t) 0 s) 0 h)
-
-  code-ends : (s : List ℕ) → isCode (stepsOf t) 0 s ≡ true → endKind (stepsOf t) 0 s ≡ 0 → ⊥
-  code-ends s h e = clash h (pick-yes (eqb (endKind (stepsOf t) 0 s) 0) false true (eq-eqb (endKind (stepsOf t) 0 s) 0 e))
 
   -- the beginning, or a complete code
   abbrev Position : List ℕ → Type 0
@@ -80,7 +78,7 @@ module _ (t : Table) (fallback : Bool) where
   codes-are : Keeps limits t → (s : List ℕ) → In s codes ↔ (AllByte s × (isCode (stepsOf t) 0 s ≡ true))
   codes-are k s =
       let m = kept-sizes limits t k .most in
-      ((λ i. (complete s i .bytes, is-code s (complete s i .ends))), (λ h. codes-whole (stepsOf t) (t .max) 0 s (k .rule3) m (h .0) (code-ends s (h .1))))
+      ((λ i. (complete s i .bytes, is-code s (complete s i .ends))), (λ h. codes-whole (stepsOf t) (t .max) 0 s (k .rule3) m (h .0) (code-length (stepsOf t) s (h .1) .0)))
 
   -- calls that tell an entry by its number
   module _ {F : Type 0} (number : Finding → F) where

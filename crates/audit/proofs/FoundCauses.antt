@@ -19,7 +19,7 @@ use Rattle.table.specs.declared.states.Code.{Code}
 use Rattle.table.specs.declared.lookup.Found.{Found}
 use Rattle.table.specs.declared.valid.Record.{Record}
 use Rattle.table.proofs.HeldMemory.{code-held}
-use Rattle.table.proofs.LookupLaws.{code-reads, point-kept}
+use Rattle.table.proofs.LookupLaws.{code-reads, point-padded}
 use Rattle.convert.specs.Step.{readAs, pointIn, writtenBy, writtenIn, OwnCode, writes}
 use Rattle.convert.specs.declared.ReadAs.{ReadAs}
 use Rattle.convert.specs.declared.ReadAs.the-variants as read
@@ -42,7 +42,7 @@ pub back-padded : (rec : Record) (m : Slices) → valid limits rec m ≡ true
     → (u : ℕ) (g : Found) → PointFound rec (m .codes) (m .infos) (m .order) u g → (w : WrittenAs) → OwnCode g w → (d : Code) → w ≡ written.Code d → padded (d .len) (d .bits) ≡ true
 back-padded rec m ok u g wrote w own d e =
     let o = subst (OwnCode g) e own in
-    subst (λ (x : Code). padded (x .len) (x .bits) ≡ true) (o .2) (point-kept limits rec m ok u g wrote (o .0) (o .1) .its-padding)
+    subst (λ (x : Code). padded (x .len) (x .bits) ≡ true) (o .2) (point-padded limits rec m ok u g wrote (o .0) (o .1))
 
 module _ (rec : Record) (m : Slices) (ok : valid limits rec m ≡ true)
     (fallback : Bool) (c : Code) (pad : padded (c .len) (c .bits) ≡ true) (fits : c .bits < 4294967296) where

@@ -89,33 +89,56 @@ cause c w = record { code = c; cause = w }
 abbrev kList : List Finding
 kList = cause (0x3f ∷ []) 2 ∷ cause (0x81 ∷ 0x7d ∷ []) 3 ∷ cause (0x81 ∷ 0x80 ∷ []) 1 ∷ []
 
+-- a case that names no setting holds under every one
+abbrev every : List Settings
+every = strict off ∷ strict on ∷ substituting off ∷ substituting on ∷ []
+
+abbrev strictly : List Settings
+strictly = strict off ∷ strict on ∷ []
+
+abbrev substitutes : List Settings
+substitutes = substituting off ∷ substituting on ∷ []
+
+abbrev withFallback : List Settings
+withFallback = strict on ∷ substituting on ∷ []
+
+abbrev offOn : List Bool
+offOn = off ∷ on ∷ []
+
+abbrev to : List Settings → List ℕ → ℕ → Reply → List Case
+to under input space reply = map (λ settings. the (toUtf8 settings input) space reply) under
+
+abbrev from : List Settings → List ℕ → ℕ → Reply → List Case
+from under input space reply = map (λ settings. the (fromUtf8 settings input) space reply) under
+
+abbrev auditing : List ℕ → ℕ → ℕ → Reply → List Case
+auditing position allowance space reply = map (λ fallback. the (audit fallback position allowance) space reply) offOn
+
 -- cases 1 to 8, in their order
 unfoldable pub cases : List Case
 cases =
     -- 1: 81 7C 33 gives E2 88 92 33, read 3
-    the (toUtf8 (strict off) (0x81 ∷ 0x7c ∷ 0x33 ∷ [])) 16 (converted 0 3 (0xe2 ∷ 0x88 ∷ 0x92 ∷ 0x33 ∷ []))
+    to every (0x81 ∷ 0x7c ∷ 0x33 ∷ []) 16 (converted 0 3 (0xe2 ∷ 0x88 ∷ 0x92 ∷ 0x33 ∷ []))
     -- 2: E2 88 92 33 gives 81 7C 33
-    ∷ the (fromUtf8 (strict off) (0xe2 ∷ 0x88 ∷ 0x92 ∷ 0x33 ∷ [])) 16 (converted 0 4 (0x81 ∷ 0x7c ∷ 0x33 ∷ []))
+    ++ from every (0xe2 ∷ 0x88 ∷ 0x92 ∷ 0x33 ∷ []) 16 (converted 0 4 (0x81 ∷ 0x7c ∷ 0x33 ∷ []))
     -- 3: EF BC 8D 33, fallback off, strict: 53, read 0. Substitute: 3F 33. Fallback on: 81 7C 33
-    ∷ the (fromUtf8 (strict off) (0xef ∷ 0xbc ∷ 0x8d ∷ 0x33 ∷ [])) 16 (converted 53 0 [])
-    ∷ the (fromUtf8 (substituting off) (0xef ∷ 0xbc ∷ 0x8d ∷ 0x33 ∷ [])) 16 (converted 0 4 (0x3f ∷ 0x33 ∷ []))
-    ∷ the (fromUtf8 (strict on) (0xef ∷ 0xbc ∷ 0x8d ∷ 0x33 ∷ [])) 16 (converted 0 4 (0x81 ∷ 0x7c ∷ 0x33 ∷ []))
+    ++ from (strict off ∷ []) (0xef ∷ 0xbc ∷ 0x8d ∷ 0x33 ∷ []) 16 (converted 53 0 [])
+    ++ from (substituting off ∷ []) (0xef ∷ 0xbc ∷ 0x8d ∷ 0x33 ∷ []) 16 (converted 0 4 (0x3f ∷ 0x33 ∷ []))
+    ++ from withFallback (0xef ∷ 0xbc ∷ 0x8d ∷ 0x33 ∷ []) 16 (converted 0 4 (0x81 ∷ 0x7c ∷ 0x33 ∷ []))
     -- 4: 81 alone: 51, read 0. 81 2D 33: 52, read 0. Empty: 0, read 0
-    ∷ the (toUtf8 (strict off) (0x81 ∷ [])) 16 (converted 51 0 [])
-    ∷ the (toUtf8 (strict off) (0x81 ∷ 0x2d ∷ 0x33 ∷ [])) 16 (converted 52 0 [])
-    ∷ the (toUtf8 (strict off) []) 16 (converted 0 0 [])
+    ++ to every (0x81 ∷ []) 16 (converted 51 0 [])
+    ++ to every (0x81 ∷ 0x2d ∷ 0x33 ∷ []) 16 (converted 52 0 [])
+    ++ to every [] 16 (converted 0 0 [])
     -- 5: 81 80, substitute: EF BF BD; strict: 53
-    ∷ the (toUtf8 (substituting off) (0x81 ∷ 0x80 ∷ [])) 16 (converted 0 2 (0xef ∷ 0xbf ∷ 0xbd ∷ []))
-    ∷ the (toUtf8 (strict off) (0x81 ∷ 0x80 ∷ [])) 16 (converted 53 0 [])
+    ++ to substitutes (0x81 ∷ 0x80 ∷ []) 16 (converted 0 2 (0xef ∷ 0xbf ∷ 0xbd ∷ []))
+    ++ to strictly (0x81 ∷ 0x80 ∷ []) 16 (converted 53 0 [])
     -- 6: 81 7C with two bytes of space: 50, read 0, written 0
-    ∷ the (toUtf8 (strict off) (0x81 ∷ 0x7c ∷ [])) 2 (converted 50 0 [])
+    ++ to every (0x81 ∷ 0x7c ∷ []) 2 (converted 50 0 [])
     -- 7: 7 complete codes; the list is 3F cause 2, 81 7D cause 3, 81 80 cause 1: one call from the beginning that is finished
-    ∷ the (audit off [] 16) 16 (audited 0 kList 7 (0x81 ∷ 0x80 ∷ []) true)
-    ∷ the (audit on [] 16) 16 (audited 0 kList 7 (0x81 ∷ 0x80 ∷ []) true)
+    ++ auditing [] 16 16 (audited 0 kList 7 (0x81 ∷ 0x80 ∷ []) true)
     -- 8: allowance 0 at the beginning: count 0, not finished. Position 81: 40
-    ∷ the (audit off [] 0) 16 (audited 0 [] 0 [] false)
-    ∷ the (audit off (0x81 ∷ []) 16) 16 (audited 40 [] 0 (0x81 ∷ []) false)
-    ∷ []
+    ++ auditing [] 0 16 (audited 0 [] 0 [] false)
+    ++ auditing (0x81 ∷ []) 16 16 (audited 40 [] 0 (0x81 ∷ []) false)
 
 -- K's text is accepted, line 0, with this record
 abbrev pub kLoaded : Loaded

@@ -1,13 +1,10 @@
 -- The two choices by the line that was found: what a code point is written as, and what is sent for that.
-use Prim.Native.Nat.{ℕ, _-_, _*_, _/_, _%_, _≤_}
+use Prim.Native.Nat.{ℕ, _-_, _*_, _%_, _≤_}
 use native.Mathlib.Omega.{arith}
 use mathlib.Core.Path.{_≡_, refl, sym, ap, _∙_}
 use mathlib.Core.Bool.{Bool, true, false}
 use mathlib.Core.Option.{Option, none, some}
-use mathlib.Core.List.{List, [], _∷_}
-use lib.Dec.{eqb}
-use borrow.Author.Tests.{eq-eqb, ne-eqb}
-use Rattle.lists.proofs.Cases.{pick-yes, pick-no}
+use mathlib.Core.List.{List}
 use Rattle.table.specs.Codes.{unpacked, bytesOf}
 use Rattle.table.specs.Meaning.{Table}
 use Rattle.table.specs.Memory.{sub1In}
@@ -18,6 +15,8 @@ use Rattle.table.specs.declared.lookup.Mapping.{Mapping}
 use Rattle.table.specs.declared.lookup.Found.{Found}
 use Rattle.table.specs.declared.lookup.Found.the-variants as found
 use Rattle.table.specs.declared.valid.Record.{Record}
+use Rattle.table.proofs.Packing.{unpacked-one}
+use Rattle.table.proofs.TableParts.{subchar1-none, subchar1-some}
 use Rattle.convert.specs.Run.{Gives}
 use Rattle.convert.specs.Step.{Written, writtenBy, writtenIn, OwnCode, sub1Bytes, substituted, sentFor}
 use Rattle.convert.specs.declared.WrittenAs.{WrittenAs}
@@ -49,10 +48,6 @@ module _ (f : Found) (m : Mapping) (e : f ≡ found.Line m) where
   pub only-read : (fallback : Bool) → m .used ≡ ReverseFallback → Chooses fallback written.Nothing
   only-read fallback q = (chosen fallback ReverseFallback q, tt)
 
-one-byte : (x v : ℕ) → v ≡ x * 16777216 → unpacked 1 v ≡ x ∷ []
-unfolding unpacked
-one-byte x v e = let d : v / 16777216 ≡ x = omega arith in ap (λ (b : ℕ). b ∷ []) d
-
 -- what is sent, by what the code point is written as
 module _ (rec : Record) (t : Table) (same-sub : t .subchar ≡ bytesOf (rec .subchar)) (same-sub1 : t .subchar1 ≡ sub1In (rec .subchar1)) (substitute : Bool) (n : ℕ)
     (w : WrittenAs) where
@@ -71,9 +66,9 @@ module _ (rec : Record) (t : Table) (same-sub : t .subchar ≡ bytesOf (rec .sub
         (λ i. substituted substitute (sub1Bytes (sym (same-sub1 ∙ q) i) (sym same-sub i)) n 0) ∙ sends written.Subchar1 e
 
     pub sends-none : rec .subchar1 ≡ 0 → Sends (substituted substitute (bytesOf (rec .subchar)) n 0)
-    sends-none z = sends-one none (pick-yes (eqb (rec .subchar1) 0) none (some (rec .subchar1 - 1)) (eq-eqb (rec .subchar1) 0 z))
+    sends-none z = sends-one none (subchar1-none (rec .subchar1) z)
 
     pub sends-subchar1 : (rec .subchar1 ≡ 0 → ⊥) → rec .subchar1 ≤ 256 → (v : ℕ) → v ≡ (rec .subchar1 - 1) % 256 * 16777216 → Sends (substituted substitute (unpacked 1 v) n 0)
     sends-subchar1 z few v q =
-        ap (λ (l : List ℕ). substituted substitute l n 0) (one-byte (rec .subchar1 - 1) v (omega arith))
-        ∙ sends-one (some (rec .subchar1 - 1)) (pick-no (eqb (rec .subchar1) 0) none (some (rec .subchar1 - 1)) (ne-eqb (rec .subchar1) 0 z))
+        ap (λ (l : List ℕ). substituted substitute l n 0) (unpacked-one (rec .subchar1 - 1) v (omega arith))
+        ∙ sends-one (some (rec .subchar1 - 1)) (subchar1-some (rec .subchar1) z)

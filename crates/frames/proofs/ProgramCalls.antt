@@ -8,11 +8,11 @@ use mathlib.Core.List.{List, [], _∷_, _++_, map, flatten}
 use lib.ListN.{length}
 use Rattle.table.specs.Limits.{limits}
 use Rattle.table.specs.Slices.{Slices}
-use Rattle.table.specs.Load.{Outcome, accepted, refused, loadOf, loadedAs, loadedBy, given, leftIn}
+use Rattle.table.specs.Load.{Outcome, accepted, refused, loadOf, loadedAs, loadedBy, given}
 use Rattle.table.specs.declared.load.Answer.the-variants.{Accepted, Refused}
 use Rattle.table.specs.declared.load.Loaded.{Loaded}
 use Rattle.table.specs.declared.load.Refusal.{Refusal}
-use Rattle.table.proofs.LoadLaws.{Called as LoadCall, textOf, entered, left}
+use Rattle.table.proofs.LoadLaws.{Called as LoadCall, textOf, entered, left, answered, slices-left}
 use Rattle.frames.specs.Lines.{closingLine}
 use Rattle.frames.specs.Report.{tableLine, Piece}
 use Rattle.frames.specs.Pages.{lastTold, nothingYet}
@@ -25,13 +25,6 @@ use Rattle.frames.proofs.FrameCalls.{PieceCalls, pieceOf, OnPieces, fra
 use Rattle.frames.proofs.PageCalls.{PageCall, OnPages, listPut, roomsOf, list-put}
 use Rattle.frames.proofs.EndCalls.{TableCall, tableLoaded, tableOut, tablePut, table-put, ClosingCall, closingDone, closingOut, closingPut}
 use Rattle.frames.proofs.EndCalls.{sums-small, closing-put}
-
--- the contract, read
-loaded-is : (c : LoadCall) → c .result ≡ loadedBy (given limits (textOf c) (entered c))
-loaded-is c = c .post .0
-
-left-is : (c : LoadCall) → left c ≡ leftIn limits (given limits (textOf c) (entered c)) (entered c)
-left-is c = c .post .2
 
 -- A RUN BEGINS: a text that may be loaded, lent memory that is large enough, and the table's line
 pub record Begun : Type 1 where
@@ -94,7 +87,7 @@ module _ (b : Begun) where
   m = left (b .load)
 
   outcome-is : l ≡ loadedAs (loadOf limits text)
-  outcome-is = loaded-is (b .load) ∙ ap loadedBy (given-lent limits text (entered (b .load)) (b .large) (b .short))
+  outcome-is = answered (b .load) ∙ ap loadedBy (given-lent limits text (entered (b .load)) (b .large) (b .short))
 
   first-line : tablePut (b .table) ≡ tableLine l
   first-line = table-put (b .table) text (b .short) (b .told ∙ outcome-is) (b .room) ∙ ap tableLine (b .told)
@@ -115,8 +108,8 @@ module _ (b : Begun) where
     claimed : Claimed l m
     claimed =
         let old = entered (b .load) in
-        subst (λ (x : Loaded). Claimed x m) (sym (loaded-is (b .load)))
-        (subst (λ (y : Slices). Claimed (loadedBy (given limits text old)) y) (sym (left-is (b .load)))
+        subst (λ (x : Loaded). Claimed x m) (sym (answered (b .load)))
+        (subst (λ (y : Slices). Claimed (loadedBy (given limits text old)) y) (sym (slices-left (b .load)))
         (whole-output text old line pieces rooms (b .short) (b .large)))
 
   goes-on : (e : l .answer ≡ Accepted) (r : Rest b) → written b (goes e r) ≡ outputOf text (flatten (map (λ (p : PieceCalls). p .bytes) (r .pieces)))

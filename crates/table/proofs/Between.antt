@@ -1,5 +1,5 @@
 -- Positions in a rising list of codes: the next code, the codes after a position, those up to one, and how many lie between two.
-use Prim.Native.Nat.{ℕ, _+_, _≤_}
+use Prim.Native.Nat.{ℕ, _+_}
 use mathlib.Core.Path.{_≡_, refl, sym, subst, _∙_, ap}
 use mathlib.Core.Bool.{Bool, true, false}
 use mathlib.Core.List.{List, [], _∷_, _++_}
@@ -73,16 +73,6 @@ after-later p c (x ∷ l) k q = go (before p x) refl (after-later p c l k) q
     go true e ih q = let w : x ≡ c = cc in rw w at e
     go false e ih q = ih q
 
--- none of those after a position is up to it
-upto-after : (q : List ℕ) (l : List (List ℕ)) → upTo q (after q l) ≡ []
-unfolding upTo after
-upto-after q [] = refl
-upto-after q (x ∷ l) = go (before q x) refl (upto-after q l)
-  where
-    go : (b : Bool) → before q x ≡ b → upTo q (after q l) ≡ [] → upTo q (keep b x (after q l)) ≡ []
-    go true e ih = rw (e, ih)
-    go false e ih = ih
-
 -- those after q, of those after a position that q does not come before
 pub after-after : (p q : List ℕ) → before q p ≡ false → (l : List (List ℕ)) → after q (after p l) ≡ after q l
 unfolding after
@@ -122,20 +112,8 @@ pub between-splits : (p q r : List ℕ) → before q p ≡ false → before r q 
     → upTo r (after p l) ≡ upTo q (after p l) ++ upTo r (after q l)
 between-splits p q r h k l s = upto-splits q r k (after p l) (rising-after p l s) ∙ ap (λ (m : List (List ℕ)). upTo q (after p l) ++ upTo r m) (after-after p q h l)
 
--- every string of some bytes comes after the beginning
-pub beginning : (l : List (List ℕ)) → All (λ s. 1 ≤ length s) l → (after [] l ≡ l) × (upTo [] l ≡ [])
-unfolding before
-beginning l h = let b = all-map (λ s p. from s p) l h in (after-all [] l b, upto-none [] l b)
-  where
-    from : (s : List ℕ) → 1 ≤ length s → before [] s ≡ true
-    from [] p = absurd (omega arith)
-    from (b ∷ s) p = refl
-
 -- the codes of rows
 module _ (step : Rows) (row : ℕ) where
-  pub beginning-codes : (after [] (allCodes step row) ≡ allCodes step row) × (upTo [] (allCodes step row) ≡ [])
-  beginning-codes = beginning (allCodes step row) (all-map (λ s b. b .some) (allCodes step row) (codes-bytes step 4 row))
-
   -- the next code, in bytes, is the first of those after the position
   next-first : (p : List ℕ) (c : Code) → nextOf step row p ≡ Found c → (c ≡ codeOf (bytesOf c)) × ((k : List (List ℕ)) × (after p (allCodes step row) ≡ bytesOf c ∷ k))
   next-first p c q = go (after p (allCodes step row)) refl (after-keeps (Bytes 4) p (allCodes step row) (codes-bytes step 4 row)) q
@@ -165,23 +143,13 @@ module _ (step : Rows) (row : ℕ) where
       let k = next-complete nz p c q in
       subst (λ (x : Code). padded (x .len) (x .bits) ≡ true) (sym (next-packed p c q)) (packed-padded (bytesOf c) (k .bytes) (k .some) (k .short))
 
-  pub next-none : (p : List ℕ) → nextOf step row p ≡ Nothing → after p (allCodes step row) ≡ []
-  next-none p q = go (after p (allCodes step row)) q
-    where
-      go : (l : List (List ℕ)) → firstCode l ≡ Nothing → l ≡ []
-      go [] q = refl
-      go (s ∷ l) q = absurd (let z : _≡_ {A = ℕ} 0 1 = cc in omega arith)
-
   pub none-next : (p : List ℕ) → after p (allCodes step row) ≡ [] → nextOf step row p ≡ Nothing
   none-next p e = ap firstCode e
 
   pub next-later : (p : List ℕ) (c : Code) → nextOf step row p ≡ Found c → before p (bytesOf c) ≡ true
   next-later p c q = after-later p (bytesOf c) (allCodes step row) (after (bytesOf c) (allCodes step row)) (next-law p c q)
 
-  -- the count between positions: none from a position to itself, one more at each next code, and from one to the next it adds up
-  pub count-none : (p : List ℕ) → countBetween step row p p ≡ 0
-  count-none p = ap length (upto-after p (allCodes step row))
-
+  -- the count between positions: one more at each next code, and from one to the next it adds up
   pub count-code : (p q : List ℕ) (c : Code) → before q p ≡ false → nextOf step row q ≡ Found c → countBetween step row p (bytesOf c) ≡ countBetween step row p q + 1
   count-code p q c h e =
       ap length (upto-step q (bytesOf c) (after p (allCodes step row)) (after (bytesOf c) (allCodes step row)) (rising-after p (allCodes step row) (rising-codes step 4 row)) (after-after p q h (allCodes step row) ∙ next-law q c e))

@@ -3,7 +3,7 @@ use Prim.Native.Nat.{ℕ, _+_, _≤_}
 use native.Mathlib.Omega.{arith}
 use mathlib.Core.Path.{_≡_, refl, sym, ap, _∙_, subst}
 use mathlib.Core.Bool.{Bool, true, false}
-use mathlib.Core.Option.{Option, none, some, Option·map}
+use mathlib.Core.Option.{none, some, Option·map}
 use mathlib.Core.List.{List, map}
 use lib.Dec.{leb, eqb}
 use lib.ListN.{length, take}
@@ -13,7 +13,7 @@ use Rattle.lists.specs.Order.{All, In, Rising, firstOf}
 use Rattle.lists.proofs.Laws.{clash, not-yes, both-left, both-right}
 use Rattle.lists.proofs.Cases.{pick-no}
 use Rattle.lists.proofs.Choice.{both-swap}
-use Rattle.lists.proofs.Order.{all-in, all-map, all-of, first-none, map-in}
+use Rattle.lists.proofs.Order.{all-map, all-of, first-none, map-in}
 use Rattle.lists.proofs.First.{first-map}
 use Rattle.table.specs.Limits.{Limits}
 use Rattle.table.specs.Codes.{bytesOf, unpacked}
@@ -23,13 +23,13 @@ use Rattle.table.specs.Slices.{slices}
 use Rattle.table.specs.Memory.{entries, entryAt, linesIn}
 use Rattle.table.specs.Search.{readsCode, writesPoint, holdsAt, FirstAt}
 use Rattle.table.specs.Valid.{storeOk, valid}
-use Rattle.table.specs.Lookup.{indicatorOf, asLine, useIn, mappingIn, readerOf, CodeFound, PointFound}
+use Rattle.table.specs.Lookup.{indicatorOf, asLine, useIn, mappingIn, mappingsIn, readerOf, CodeFound, PointFound}
 use Rattle.table.specs.declared.states.Code.{Code}
 use Rattle.table.specs.declared.valid.Record.{Record}
 use Rattle.table.specs.declared.lookup.Use.the-variants.{RoundTrip, Fallback, Substituted, ReverseFallback}
 use Rattle.table.specs.declared.lookup.Mapping.{Mapping}
 use Rattle.table.specs.declared.lookup.Found.the-variants as found
-use Rattle.table.proofs.LineLaws.{ok-padded, padded-length}
+use Rattle.table.proofs.LineLaws.{ok-padded, padded-length, three-shift}
 use Rattle.table.proofs.StoreLaws.{Inside, in-entries, holds-at, Reads, reads-is, ok-codes, ok-infos, store-rising, code-only, point-only}
 use Rattle.table.proofs.ValidLaws.{Tested, tested, lines-kept}
 use Rattle.table.proofs.LookupLaws.{same-codes}
@@ -74,14 +74,6 @@ write-rank r = go (eqb r 0) refl (eqb r 1) refl (eqb r 2)
     go false p false q true = refl
     go false p false q false = refl
 
-read-shift : (p q r : Bool) → pick p (pick q r false) false ≡ pick r (pick p q false) false
-read-shift true true true = refl
-read-shift true true false = refl
-read-shift true false true = refl
-read-shift true false false = refl
-read-shift false q true = refl
-read-shift false q false = refl
-
 module _ (e : Entry) where
   line-read : isRead (lineIn e) ≡ readsEntry e
   unfolding lineIn
@@ -96,7 +88,7 @@ module _ (e : Entry) where
       → readsCode (c .bits) (c .len) e ≡ pick (isRead (lineIn e)) (same (lineIn e .code) (bytesOf c)) false
   unfolding readsCode lineIn
   reads-line c ok p =
-      read-shift (eqb (e .bits) (c .bits)) (eqb (extraIn (e .info) + 1) (c .len)) (readsEntry e)
+      three-shift (readsEntry e) (eqb (e .bits) (c .bits)) (eqb (extraIn (e .info) + 1) (c .len))
       ∙ (λ i. pick (sym line-read i) (sym (same-codes (record { bits = e .bits; len = extraIn (e .info) + 1 }) c (ok-padded e ok) p) i) false)
 
   writes-line : (point : ℕ) → writesPoint point e ≡ pick (isWritten (lineIn e)) (eqb (lineIn e .point) point) false
@@ -126,10 +118,7 @@ module _ (es : List Entry) where
       first-map lineIn (writesPoint point) (λ l. pick (isWritten l) (eqb (l .point) point) false) es
       (all-of es (λ e i. writes-line e point))
 
--- no line, and a line
-no-line : (A : Type 0) (l : Line) → _≡_ {A = Option Line} none (some l) → A
-no-line A l e = absurd (let z : _≡_ {A = ℕ} 0 1 = cc in omega arith)
-
+-- nothing is no line
 no-mapping : (A : Type 0) (m : Mapping) → found.Nothing ≡ found.Line m → A
 no-mapping A m e = absurd (let z : _≡_ {A = ℕ} 0 1 = cc in omega arith)
 
@@ -140,9 +129,9 @@ module _ (rec : Record) (codes infos : List ℕ) where
   abbrev es : List Entry
   es = entries (take n codes) (take n infos)
 
-  stored-in : (at : ℕ) → Inside n codes infos at → In (lineIn (entryAt codes infos at)) (linesIn rec codes infos)
-  unfolding linesIn
-  stored-in at w = map-in lineIn (entryAt codes infos at) es (in-entries n codes infos at w)
+  stored-in : (at : ℕ) → Inside n codes infos at → In (mappingIn (entryAt codes infos at)) (mappingsIn rec codes infos)
+  unfolding mappingsIn
+  stored-in at w = map-in mappingIn (entryAt codes infos at) es (in-entries n codes infos at w)
 
   module _ (lim : Limits) (states order : List ℕ) (ok : valid lim rec (slices states codes infos order) ≡ true) where
     passed : Tested lim rec (slices states codes infos order)
@@ -150,13 +139,6 @@ module _ (rec : Record) (codes infos : List ℕ) where
 
     each-formed : All (λ e. entryOk e ≡ true) es
     each-formed = all-map (λ e k. k .formed) es (lines-kept lim rec (slices states codes infos order) passed)
-
-    found-padded : (at : ℕ) → Inside n codes infos at → (m : Mapping)
-        → found.Line (mappingIn (entryAt codes infos at)) ≡ found.Line m → padded (m .code .len) (m .code .bits) ≡ true
-    found-padded at w m e =
-        let k : mappingIn (entryAt codes infos at) ≡ m = cc in
-        subst (λ (x : Mapping). padded (x .code .len) (x .code .bits) ≡ true) k
-        (ok-padded (entryAt codes infos at) (all-in (λ x. entryOk x ≡ true) (entryAt codes infos at) es each-formed (in-entries n codes infos at w)))
 
     reader-held : (c : Code) → readerOf c (linesIn rec codes infos) ≡ Option·map lineIn (firstOf (readsCode (c .bits) (c .len)) es)
     unfolding linesIn
@@ -182,19 +164,18 @@ module _ (rec : Record) (codes infos : List ℕ) where
               ap some (mapping-line here)
               ∙ sym (reader-held lim states order ok c
               ∙ ap (Option·map lineIn) (code-only (lim .mappings) n codes infos order (passed lim states order ok .store-ok) (c .bits) (c .len) at h));
-          formed = λ lim states order ok m e. found-padded lim states order ok at (w .0) m e;
-          on-any = λ l e. any-code r (w .0) l e;
+          on-any = λ m e. any-code r (w .0) m e;
         }
       where
-        any-code : Reads (c .bits) (c .len) here → Inside n codes infos at → (l : Line) → some (asLine (mappingIn here)) ≡ some l
-            → In l (linesIn rec codes infos) × (isRead l ≡ true) × (l .code ≡ bytesOf c)
-        any-code r w l e =
-            let k : asLine (mappingIn here) ≡ l = cc in
-            let j : lineIn here ≡ l = sym (mapping-line here) ∙ k in
-            let code : lineIn here .code ≡ bytesOf c = (λ i. unpacked (r .its-len i) (r .its-code i)) in (
-              subst (λ (x : Line). In x (linesIn rec codes infos)) j (stored-in at w),
-              subst (λ (x : Line). isRead x ≡ true) j (line-read here ∙ le-leb (rankIn (here .info)) 1 (r .its-rank)),
-              subst (λ (x : Line). x .code ≡ bytesOf c) j code,
+        any-code : Reads (c .bits) (c .len) here → Inside n codes infos at → (m : Mapping) → found.Line (mappingIn here) ≡ found.Line m
+            → In m (mappingsIn rec codes infos) × (isRead (asLine m) ≡ true) × (m .code ≡ c)
+        any-code r w m e =
+            let k : mappingIn here ≡ m = cc in
+            let reads : isRead (asLine (mappingIn here)) ≡ true = ap isRead (mapping-line here) ∙ line-read here ∙ le-leb (rankIn (here .info)) 1 (r .its-rank) in
+            let code : mappingIn here .code ≡ c = (λ i. record { bits = r .its-code i; len = r .its-len i }) in (
+              subst (λ (x : Mapping). In x (mappingsIn rec codes infos)) k (stored-in at w),
+              subst (λ (x : Mapping). isRead (asLine x) ≡ true) k reads,
+              subst (λ (x : Mapping). x .code ≡ c) k code,
             )
 
     -- the one at the place that the search gives does not
@@ -202,8 +183,7 @@ module _ (rec : Record) (codes infos : List ℕ) where
         → holdsAt (readsCode (c .bits) (c .len)) n codes infos at ≡ false → CodeFound rec codes infos c found.Nothing
     code-nothing first h = record {
       on-valid = λ lim states order ok. sym (unread lim states order ok (leb (c .len) 4) refl);
-      formed = λ lim states order ok m e. no-mapping (padded (m .code .len) (m .code .bits) ≡ true) m e;
-      on-any = λ l e. no-line (In l (linesIn rec codes infos) × (isRead l ≡ true) × (l .code ≡ bytesOf c)) l e;
+      on-any = λ m e. no-mapping (In m (mappingsIn rec codes infos) × (isRead (asLine m) ≡ true) × (m .code ≡ c)) m e;
     }
       where
         unread : (lim : Limits) (states order : List ℕ) → valid lim rec (slices states codes infos order) ≡ true
@@ -231,17 +211,16 @@ module _ (rec : Record) (codes infos : List ℕ) where
           on-valid = λ lim states ok.
               ap some (mapping-line there)
               ∙ sym (writer-held point ∙ ap (Option·map lineIn) (point-only (lim .mappings) n codes infos order (passed lim states order ok .store-ok) point at h));
-          formed = λ lim states ok m e. found-padded lim states order ok at (w .0) m e;
-          on-any = λ l e. any-point (sym (writes-line there point) ∙ w .1) (w .0) l e;
+          on-any = λ m e. any-point (sym (writes-line there point) ∙ w .1) (w .0) m e;
         }
       where
         any-point : pick (isWritten (lineIn there)) (eqb (lineIn there .point) point) false ≡ true → Inside n codes infos at
-            → (l : Line) → some (asLine (mappingIn there)) ≡ some l
-            → In l (linesIn rec codes infos) × (isWritten l ≡ true) × (l .point ≡ point)
-        any-point r w l e =
-            let k : asLine (mappingIn there) ≡ l = cc in
-            let j : lineIn there ≡ l = sym (mapping-line there) ∙ k in (
-              subst (λ (x : Line). In x (linesIn rec codes infos)) j (stored-in at w),
+            → (m : Mapping) → found.Line (mappingIn there) ≡ found.Line m
+            → In m (mappingsIn rec codes infos) × (isWritten (asLine m) ≡ true) × (m .point ≡ point)
+        any-point r w m e =
+            let k : mappingIn there ≡ m = cc in
+            let j : lineIn there ≡ asLine m = sym (mapping-line there) ∙ ap asLine k in (
+              subst (λ (x : Mapping). In x (mappingsIn rec codes infos)) k (stored-in at w),
               subst (λ (x : Line). isWritten x ≡ true) j (both-left (isWritten (lineIn there)) _ r),
               subst (λ (x : Line). x .point ≡ point) j (eqb-true (lineIn there .point) point (both-right (isWritten (lineIn there)) _ r)),
             )
@@ -254,6 +233,5 @@ module _ (rec : Record) (codes infos : List ℕ) where
           sym (writer-held point
           ∙ ap (Option·map lineIn) (first (lim .mappings) (passed lim states order ok .store-ok)
           ∙ pick-no (holdsAt (writesPoint point) n codes infos at) (some there) none h));
-      formed = λ lim states ok m e. no-mapping (padded (m .code .len) (m .code .bits) ≡ true) m e;
-      on-any = λ l e. no-line (In l (linesIn rec codes infos) × (isWritten l ≡ true) × (l .point ≡ point)) l e;
+      on-any = λ m e. no-mapping (In m (mappingsIn rec codes infos) × (isWritten (asLine m) ≡ true) × (m .point ≡ point)) m e;
     }

@@ -37,9 +37,9 @@ use Rattle.table.specs.Keys.{Keys}
 use Rattle.table.specs.Numbers.{n11, n12, n14, rowOver, n15, lowest, keyConditions}
 use Rattle.table.specs.Limits.{Limits}
 use Rattle.table.specs.Meaning.{same}
-use Rattle.table.specs.Codes.{packed, unpacked, AllByte}
+use Rattle.table.specs.Codes.{AllByte}
 use Rattle.table.proofs.LowestLaws.{lowest-fine}
-use Rattle.table.proofs.Packing.{length-unpacked, unpacked-bytes, packed-fits, packed-padded, pack-unpack}
+use Rattle.table.proofs.Packing.{packed-fits, packed-padded}
 use Rattle.table.proofs.TextLaws.{scan, ends-inside, Forth, byte-forth, SeriesByte, more-bytes}
 use Rattle.table.proofs.RowText.{Bounded, columns-bounded, painted-length}
 use Rattle.table.specs.declared.load.Refusal.the-variants as refusal
@@ -240,8 +240,3 @@ row-full cs h = painted-length meaning cs 256 (replicate 256 illegal) h (length-
 
 pub row-length : (s : List ℕ) → length (rowOf (columnsOf s)) ≡ 256
 row-length s = row-full (columnsOf s) (all-map (λ c (b : Bounded c). b .0) (columnsOf s) (columns-bounded s))
-
--- subchar as a code, and its bytes
-pub sub-bytes : (b n : ℕ) → InRange (Sub b n) → (length (unpacked n b) ≡ n) × AllByte (unpacked n b) × (packed (unpacked n b) ≡ b)
-unfolding InRange
-sub-bytes b n h = (length-unpacked n b, unpacked-bytes n b (h .2), pack-unpack n b (h .3))

@@ -311,7 +311,7 @@ four-shift false q true true = refl
 four-shift false q true false = refl
 four-shift false q false s = refl
 
-three-shift : (p r s : Bool) → pick r (pick s p false) false ≡ pick p (pick r s false) false
+pub three-shift : (p r s : Bool) → pick r (pick s p false) false ≡ pick p (pick r s false) false
 three-shift true true true = refl
 three-shift true true false = refl
 three-shift true false s = refl

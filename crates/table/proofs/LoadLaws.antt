@@ -45,10 +45,10 @@ abbrev pub left : Called → Slices
 left c = slices (now (c .exit .1 .0)) (now (c .exit .1 .1 .0)) (now (c .exit .1 .1 .1 .0)) (now (c .exit .1 .1 .1 .1 .0))
 
 -- the contract, read
-answered : (c : Called) → c .result ≡ loadedBy (given limits (textOf c) (entered c))
+pub answered : (c : Called) → c .result ≡ loadedBy (given limits (textOf c) (entered c))
 answered c = c .post .0
 
-slices-left : (c : Called) → left c ≡ leftIn limits (given limits (textOf c) (entered c)) (entered c)
+pub slices-left : (c : Called) → left c ≡ leftIn limits (given limits (textOf c) (entered c)) (entered c)
 slices-left c = c .post .2
 
 -- `Accepted` is handed back for an accepted text alone

@@ -37,6 +37,11 @@ unfolding unpacked
 unpacked-more zero v h = absurd (omega arith)
 unpacked-more (suc n) v h = let e : suc n - 1 ≡ n = omega arith in rw e
 
+-- one byte on top
+pub unpacked-one : (x v : ℕ) → v ≡ x * 16777216 → unpacked 1 v ≡ x ∷ []
+unfolding unpacked
+unpacked-one x v e = let d : v / 16777216 ≡ x = omega arith in ap (λ (b : ℕ). b ∷ []) d
+
 -- numbers below 256 are bytes
 pub all-bytes : (s : List ℕ) → All (λ b. b < 256) s → AllByte s
 unfolding AllByte

@@ -1,7 +1,11 @@
 -- The table that record and memory hold: its lines, subchar and subchar1. On memory that passes the test subchar1 is none or a byte.
 use mathlib.Core.Path.{_≡_, refl}
-use Prim.Native.Nat.{_≤_}
+use Prim.Native.Nat.{ℕ, _-_, _≤_}
 use mathlib.Core.Bool.{true}
+use mathlib.Core.Option.{none, some}
+use lib.Dec.{eqb}
+use borrow.Author.Tests.{eq-eqb, ne-eqb}
+use Rattle.lists.proofs.Cases.{pick-yes, pick-no}
 use Rattle.table.specs.Limits.{Limits}
 use Rattle.table.specs.Codes.{bytesOf}
 use Rattle.table.specs.Slices.{Slices}
@@ -25,3 +29,10 @@ module _ (rec : Record) (m : Slices) where
 
 pub subchar1-byte : (lim : Limits) (rec : Record) (m : Slices) → valid lim rec m ≡ true → rec .subchar1 ≤ 256
 subchar1-byte lim rec m ok = record-kept lim rec (tested lim rec m ok .rec-ok) .sub1-byte
+
+-- subchar1 by the record's number: none, or a byte
+pub subchar1-none : (n : ℕ) → n ≡ 0 → sub1In n ≡ none
+subchar1-none n z = pick-yes (eqb n 0) none (some (n - 1)) (eq-eqb n 0 z)
+
+pub subchar1-some : (n : ℕ) → (n ≡ 0 → ⊥) → sub1In n ≡ some (n - 1)
+subchar1-some n z = pick-no (eqb n 0) none (some (n - 1)) (ne-eqb n 0 z)

@@ -166,7 +166,7 @@ start = reading Header noKeys [] []
 unfoldable pub loadOf : Limits → List ℕ → Outcome
 loadOf lim text = loadGo lowest lim 0 (linesOf text) (went start)
 
--- the reader asked for the grammar alone: no number from 10 to 15 and no 27 holds; rows and lines, whatever rules they break.
+-- the reader asked for the grammar alone: no number from 10 to 15 and no 27 holds; rows and lines, whatever they break of T2 to T9, of T1's sizes and its count of lines.
 -- Which texts are read so: `TableText` of Grammar.antt (proofs/TextRead.antt)
 unfoldable pub readOf : Limits → List ℕ → Outcome
 readOf lim text = loadGo inForm lim 0 (linesOf text) (went start)

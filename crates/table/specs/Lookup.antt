@@ -3,7 +3,8 @@ use Prim.Native.Nat.{ℕ, _+_}
 use mathlib.Core.Path.{_≡_}
 use mathlib.Core.Bool.{true}
 use mathlib.Core.Option.{Option, none, some}
-use mathlib.Core.List.{List}
+use mathlib.Core.List.{List, map}
+use lib.ListN.{take}
 use lib.Dec.{eqb}
 use Rattle.lists.specs.Pick.{pick}
 use Rattle.lists.specs.Order.{In}
@@ -12,7 +13,7 @@ use Rattle.table.specs.Codes.{bytesOf}
 use Rattle.table.specs.Meaning.{Line, isRead, isWritten, reader, writer}
 use Rattle.table.specs.Entry.{Entry, pointIn, rankIn, extraIn, padded}
 use Rattle.table.specs.Slices.{slices}
-use Rattle.table.specs.Memory.{linesIn}
+use Rattle.table.specs.Memory.{entries, linesIn}
 use Rattle.table.specs.Valid.{valid}
 use Rattle.table.specs.declared.states.Code.{Code}
 use Rattle.table.specs.declared.valid.Record.{Record}
@@ -47,17 +48,17 @@ mappingIn e = record { point = pointIn (e .info); code = record { bits = e .bits
 abbrev pub readerOf : Code → List Line → Option Line
 readerOf code ls = pick (padded (code .len) (code .bits)) (reader (bytesOf code) ls) none
 
--- THE ANSWER for a code: on memory that passes the test behind 60 the table's reader, its bits of the form; on any memory
--- nothing, or a stored line that is read and has this code
+-- the stored lines as they are found
+unfoldable pub mappingsIn : Record → List ℕ → List ℕ → List Mapping
+mappingsIn rec codes infos = map mappingIn (entries (take (rec .mappings) codes) (take (rec .mappings) infos))
+
+-- THE ANSWER for a code: on memory that passes the test behind 60 the table's reader; on any memory nothing, or a stored line
+-- that is read and has just this code
 pub record CodeFound (rec : Record) (codes infos : List ℕ) (code : Code) (r : Found) : Type 0 where
   pub on-valid : (lim : Limits) (states order : List ℕ) → valid lim rec (slices states codes infos order) ≡ true → lineFound r ≡ readerOf code (linesIn rec codes infos)
-  pub formed : (lim : Limits) (states order : List ℕ) → valid lim rec (slices states codes infos order) ≡ true → (m : Mapping) → r ≡ found.Line m
-      → padded (m .code .len) (m .code .bits) ≡ true
-  pub on-any : (l : Line) → lineFound r ≡ some l → In l (linesIn rec codes infos) × (isRead l ≡ true) × (l .code ≡ bytesOf code)
+  pub on-any : (m : Mapping) → r ≡ found.Line m → In m (mappingsIn rec codes infos) × (isRead (asLine m) ≡ true) × (m .code ≡ code)
 
--- THE ANSWER for a code point: the table's writer; on any memory nothing, or a stored line that is written and has it
+-- THE ANSWER for a code point: the table's writer; on any memory nothing, or a stored line that says what becomes of it (no `|3` line)
 pub record PointFound (rec : Record) (codes infos order : List ℕ) (point : ℕ) (r : Found) : Type 0 where
   pub on-valid : (lim : Limits) (states : List ℕ) → valid lim rec (slices states codes infos order) ≡ true → lineFound r ≡ writer point (linesIn rec codes infos)
-  pub formed : (lim : Limits) (states : List ℕ) → valid lim rec (slices states codes infos order) ≡ true → (m : Mapping) → r ≡ found.Line m
-      → padded (m .code .len) (m .code .bits) ≡ true
-  pub on-any : (l : Line) → lineFound r ≡ some l → In l (linesIn rec codes infos) × (isWritten l ≡ true) × (l .point ≡ point)
+  pub on-any : (m : Mapping) → r ≡ found.Line m → In m (mappingsIn rec codes infos) × (isWritten (asLine m) ≡ true) × (m .point ≡ point)

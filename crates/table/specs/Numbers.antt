@@ -137,7 +137,8 @@ unfoldable pub lowest : List Cond → Verdict
 lowest [] = Fine
 lowest (c ∷ cs) = let r = lowest cs in pick (c .holds) (Refuse (c .refusal)) r
 
--- numbers 16 and 20 to 26 are about T1 to T9, the others about the grammar
+-- of the conditions at a line 16 and 20 to 26 are about T1 to T9, the others about the grammar; of T1 the grammar itself asks
+-- for a row (13) and allows no row beyond the last (15)
 abbrev pub isRule : Refusal → Bool
 isRule x = leb 16 (numberOf x)
 

@@ -155,7 +155,7 @@ fn next_in(states: &[u16], marks: &[u8], row: u16, pos: Code, left: u32) -> Next
 }
 
 // The first complete code after a position, from a row on, led on through marked rows alone. The position of no bytes is the beginning.
-// With the marks of `mark_rows` no code is left out, and rows that never end a code are not walked.
+// With the marks of `mark_rows` on valid memory no code is left out, and rows that never end a code are not walked.
 pub fn next_code(states: &[u16], marks: &[u8], row: u16, pos: Code) -> Next
     ensures { λ r. ⌜ r ≡ nextMarked (now (marks .entry)) (stepAt (now (states .entry))) row (bytesOf pos) ⌝ }
 {

@@ -68,8 +68,8 @@ pub fn find_code(rec: Record, codes: &[u32], infos: &[u32], code: Code) -> Found
     Found::Nothing
 }
 
-// The same, with one look at a place before the search: a line there that reads the code is the only one. Whatever the
-// place, the answer is the same; it is found sooner where the place is right.
+// The same, with one look at a place before the search. On valid memory a line there that reads the code is the only one:
+// whatever the place, the answer is the same, and found sooner where the place is right.
 pub fn find_code_near(rec: Record, codes: &[u32], infos: &[u32], code: Code, at: usize) -> Found
     ensures { λ r. ⌜ CodeFound rec (now (codes .entry)) (now (infos .entry)) code r ⌝ }
 {
