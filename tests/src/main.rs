@@ -4,7 +4,8 @@
 //! of a run with seed s + n. OBOEPOND_TRACE=1 names every random case before it
 //! runs. Arguments: none, everything; `program`, the program's tests alone;
 //! `stand-in`, run in the program's place; `season N`, a long run of the
-//! program with N MB of each kind of lines.
+//! program with N MB of each kind of lines; `pages`, the pages and the widths
+//! of lines alone.
 
 #[cfg(not(feature = "oracle-only"))]
 mod abi;
@@ -15,6 +16,7 @@ mod gen;
 mod library;
 mod memory;
 mod oracle;
+mod pages;
 mod program;
 mod program_cases;
 mod program_random;
@@ -275,13 +277,17 @@ fn main() {
     match arguments[..] {
         [] => all_tests(false),
         ["program"] => all_tests(true),
+        ["pages"] => {
+            pages_tests(&mut Tally::default());
+            finish()
+        }
         ["stand-in"] => program::stand_in().expect("standard input and output"),
         ["season", mb] => {
             let right = mb.parse().is_ok_and(season::run);
             std::process::exit(if right { 0 } else { 1 });
         }
         _ => {
-            println!("arguments: none, `program`, `stand-in` or `season N`");
+            println!("arguments: none, `program`, `stand-in`, `season N` or `pages`");
             std::process::exit(2);
         }
     }
@@ -293,6 +299,7 @@ fn all_tests(program_alone: bool) -> ! {
     watch();
     let mut tally = Tally::default();
     if !program_alone {
+        pages_tests(&mut tally);
         library_tests(seed, count, &mut tally);
     }
     program_cases(&StandIn, &mut tally);
@@ -300,6 +307,22 @@ fn all_tests(program_alone: bool) -> ! {
         program_tests(seed, count, &mut tally);
     }
     finish()
+}
+
+/// A file or name that a page cites and that is not there, and a line that is
+/// too long, are failures each; a run that looks at nothing is one too.
+fn pages_tests(tally: &mut Tally) {
+    for (name, (seen, failures)) in
+        [("names that the pages cite", pages::names()), ("widths of lines", pages::widths())]
+    {
+        tally.here = 0;
+        println!("[pages] {name}: {seen} looked at, {} wrong", failures.len());
+        let outcome = if seen == 0 { Err("nothing to look at".into()) } else { Ok(()) };
+        tally.count("pages", name, outcome);
+        for failure in failures {
+            tally.count("pages", name, Err(failure));
+        }
+    }
 }
 
 fn library_tests(seed: u64, count: u64, tally: &mut Tally) {

@@ -10,25 +10,25 @@ use lib.Dec.{eqb}
 use lib.ListN.{length}
 use Rattle.lists.specs.Pick.{pick}
 use Rattle.lists.specs.Order.{All, In}
-use Rattle.lists.specs.Paging.{Page, those, pageFrom}
+use Rattle.lists.specs.Paging.{Page, pageFrom}
 use Rattle.lists.proofs.Laws.{clash}
 use Rattle.lists.proofs.Cases.{pick-case}
-use Rattle.lists.proofs.Order.{all-in}
-use Rattle.lists.proofs.Paging.{moves-on, position-kept}
-use Rattle.lists.proofs.PageEntries.{left-falls, entries-all}
+use Rattle.lists.proofs.Order.{All-In⁻}
+use Rattle.lists.proofs.Paging.{pageFrom-moves, position-pageFrom}
+use Rattle.lists.proofs.PageEntries.{following-falls, All-entries}
 use Rattle.table.specs.Limits.{limits}
-use Rattle.table.specs.Codes.{before, after, codeOf, bytesOf, AllByte}
+use Rattle.table.specs.Codes.{codeOf, bytesOf, AllByte}
+use Rattle.lists.specs.Strings.{after, same}
 use Rattle.table.specs.States.{endKind}
-use Rattle.table.specs.Meaning.{Table, stepsOf, same, reader}
+use Rattle.table.specs.Meaning.{Table, stepsOf, reader}
 use Rattle.table.specs.Slices.{Slices}
 use Rattle.table.specs.Memory.{tableIn}
 use Rattle.table.specs.Valid.{valid}
 use Rattle.table.specs.declared.states.Code.{Code}
 use Rattle.table.specs.declared.valid.Record.{Record}
-use Rattle.table.proofs.Packing.{unpack}
+use Rattle.table.proofs.Packing.{unpacked-packed}
 use Rattle.table.proofs.CodeList.{Bytes, codes-bytes}
-use Rattle.table.proofs.CodePositions.{those-after}
-use Rattle.audit.specs.Audit.{Finding, Answer, Back, unread, unwritten, written, completeCodes, backOf, causeBy, causeOf, findingOf, listing, refused, looked, isPosition, auditOn, auditTested}
+use Rattle.audit.specs.Audit.{Finding, Answer, Back, unread, unwritten, written, completeCodes, backOf, causeBy, causeOf, findingOf, pageableCodes, refused, looked, isPosition, auditOn, auditTested}
 use Rattle.audit.specs.declared.Ending.the-variants.{Looked, BadPosition, BadTable}
 use Rattle.audit.proofs.CodePages.{codes-lawful}
 use Rattle.audit.proofs.Tests.{position-packed}
@@ -57,39 +57,34 @@ module _ (t : Table) (fallback : Bool) where
       let k : record { code = c; cause = suc w } ≡ f = cc in
       subst Found k (record { bytes = b .bytes; short = b .short; least = omega arith; most = m })
 
-  page-found : (allowance space : ℕ) (p : List ℕ) → All Found (pageFrom (listing t fallback) allowance space p .entries)
-  unfolding listing
+  page-found : (allowance space : ℕ) (p : List ℕ) → All Found (pageFrom (pageableCodes t fallback) allowance space p .entries)
+  unfolding pageableCodes
   page-found allowance space p =
-      entries-all (listing t fallback) (completeCodes t) (codes-lawful t fallback) (Bytes 4) Found
+      All-entries (pageableCodes t fallback) (completeCodes t) (codes-lawful t fallback) (Bytes 4) Found
       (λ c f b e. is-found c (causeOf t fallback c) f b (cause-most c) e) (codes-bytes (stepsOf t) 4 0) allowance space p
 
   -- positions as bytes and as codes
-  page-bytes : (allowance space : ℕ) (p : List ℕ) → bytesOf (codeOf p) ≡ p → bytesOf (codeOf (pageFrom (listing t fallback) allowance space p .position)) ≡ pageFrom (listing t fallback) allowance space p .position
-  unfolding listing
+  page-bytes : (allowance space : ℕ) (p : List ℕ) → bytesOf (codeOf p) ≡ p → bytesOf (codeOf (pageFrom (pageableCodes t fallback) allowance space p .position)) ≡ pageFrom (pageableCodes t fallback) allowance space p .position
+  unfolding pageableCodes
   page-bytes allowance space p h =
-      position-kept (listing t fallback) (completeCodes t) (codes-lawful t fallback) (λ q. bytesOf (codeOf q) ≡ q)
+      position-pageFrom (pageableCodes t fallback) (completeCodes t) (codes-lawful t fallback) (λ q. bytesOf (codeOf q) ≡ q)
       (λ s i. all-in-bytes s i) allowance space p h
     where
       all-in-bytes : (s : List ℕ) → In s (completeCodes t) → bytesOf (codeOf s) ≡ s
-      all-in-bytes s i = let b = all-in (Bytes 4) s (completeCodes t) (codes-bytes (stepsOf t) 4 0) i in unpack s (b .bytes) (b .short)
+      all-in-bytes s i = let b = All-In⁻ (Bytes 4) s (completeCodes t) (codes-bytes (stepsOf t) 4 0) i in unpacked-packed s (b .bytes) (b .short)
 
-  page-falls : (allowance space : ℕ) (p : List ℕ) → pageFrom (listing t fallback) allowance space p .finished ≡ false → 1 ≤ allowance → 1 ≤ space
-      → length (after (pageFrom (listing t fallback) allowance space p .position) (completeCodes t)) < length (after p (completeCodes t))
-  unfolding listing
+  page-falls : (allowance space : ℕ) (p : List ℕ) → pageFrom (pageableCodes t fallback) allowance space p .finished ≡ false → 1 ≤ allowance → 1 ≤ space
+      → length (after (pageFrom (pageableCodes t fallback) allowance space p .position) (completeCodes t)) < length (after p (completeCodes t))
+  unfolding pageableCodes
   page-falls allowance space p f h k =
-      let a = pageFrom (listing t fallback) allowance space p in
-      let l = left-falls (listing t fallback) (completeCodes t) (codes-lawful t fallback) allowance space p in
-      let x = ap length (those-after (a .position) (completeCodes t)) in
-      let y = ap length (those-after p (completeCodes t)) in
-      go (moves-on (listing t fallback) allowance space p h k) l x y
+      let l = following-falls (pageableCodes t fallback) (completeCodes t) (codes-lawful t fallback) allowance space p in
+      go (pageFrom-moves (pageableCodes t fallback) allowance space p h k) l
     where
-      go : (1 ≤ pageFrom (listing t fallback) allowance space p .count) ⊎ (pageFrom (listing t fallback) allowance space p .finished ≡ true)
-          → length (those (before (pageFrom (listing t fallback) allowance space p .position)) (completeCodes t)) + pageFrom (listing t fallback) allowance space p .count ≡ length (those (before p) (completeCodes t))
-          → length (those (before (pageFrom (listing t fallback) allowance space p .position)) (completeCodes t)) ≡ length (after (pageFrom (listing t fallback) allowance space p .position) (completeCodes t))
-          → length (those (before p) (completeCodes t)) ≡ length (after p (completeCodes t))
-          → length (after (pageFrom (listing t fallback) allowance space p .position) (completeCodes t)) < length (after p (completeCodes t))
-      go (inl c) l x y = omega arith
-      go (inr c) l x y = absurd (clash c f)
+      go : (1 ≤ pageFrom (pageableCodes t fallback) allowance space p .count) ⊎ (pageFrom (pageableCodes t fallback) allowance space p .finished ≡ true)
+          → length (after (pageFrom (pageableCodes t fallback) allowance space p .position) (completeCodes t)) + pageFrom (pageableCodes t fallback) allowance space p .count ≡ length (after p (completeCodes t))
+          → length (after (pageFrom (pageableCodes t fallback) allowance space p .position) (completeCodes t)) < length (after p (completeCodes t))
+      go (inl c) l = omega arith
+      go (inr c) l = absurd (clash c f)
 
 -- a call on any record and memory
 module _ (rec : Record) (m : Slices) (fallback : Bool) (pos : Code) (allowance space : ℕ) where
@@ -100,7 +95,7 @@ module _ (rec : Record) (m : Slices) (fallback : Bool) (pos : Code) (allowance s
   answer = auditTested limits rec m fallback pos allowance space
 
   abbrev page : Page Finding (List ℕ)
-  page = pageFrom (listing held fallback) allowance space (bytesOf pos)
+  page = pageFrom (pageableCodes held fallback) allowance space (bytesOf pos)
 
   -- what holds of a page from a position and of a refusal holds of the answer
   by-ending : (R : Answer → Type 0) → (pos ≡ codeOf (bytesOf pos) → R (looked page)) → R (refused BadPosition pos) → R (refused BadTable pos) → R answer

@@ -9,8 +9,9 @@ use Rattle.lists.specs.Pick.{pick}
 use Rattle.table.specs.Limits.{limits}
 use Rattle.table.specs.States.{stepAt, endKind}
 use Rattle.table.specs.Codes.{bytesOf}
-use Rattle.table.specs.Meaning.{Line, Table, same, reader}
-use Rattle.table.specs.Entry.{padded}
+use Rattle.table.specs.Meaning.{Line, Table, reader}
+use Rattle.lists.specs.Strings.{same}
+use Rattle.table.specs.Stored.{padded}
 use Rattle.table.specs.Slices.{Slices}
 use Rattle.table.specs.Memory.{tableIn}
 use Rattle.table.specs.Valid.{valid}
@@ -20,7 +21,7 @@ use Rattle.table.specs.declared.lookup.Found.{Found}
 use Rattle.table.specs.declared.valid.Record.{Record}
 use Rattle.table.proofs.HeldMemory.{code-held}
 use Rattle.table.proofs.LookupLaws.{code-reads, point-padded}
-use Rattle.convert.specs.Step.{readAs, pointIn, writtenBy, writtenIn, OwnCode, writes}
+use Rattle.convert.specs.Step.{readAs, pointReadAs, writtenBy, writtenIn, OwnCode, writes}
 use Rattle.convert.specs.declared.ReadAs.{ReadAs}
 use Rattle.convert.specs.declared.ReadAs.the-variants as read
 use Rattle.convert.specs.declared.WrittenAs.{WrittenAs}
@@ -52,7 +53,7 @@ module _ (rec : Record) (m : Slices) (ok : valid limits rec m ≡ true)
   abbrev byU : Bool
   byU = eqb (endKind (stepAt (m .states)) 0 (bytesOf c)) 3
 
-  module _ (f : Found) (found : CodeFound rec (m .codes) (m .infos) c f) (r : ReadAs) (reads : pointIn r ≡ readAs (lineFound f)) where
+  module _ (f : Found) (found : CodeFound rec (m .codes) (m .infos) c f) (r : ReadAs) (reads : pointReadAs r ≡ readAs (lineFound f)) where
     cause-back : (b : Back) → backOf held fallback (lineFound f) ≡ b → causeBy (bytesOf c) byU b ≡ causeOf held fallback (bytesOf c)
     unfolding causeOf
     cause-back b e =
@@ -61,7 +62,7 @@ module _ (rec : Record) (m : Slices) (ok : valid limits rec m ≡ true)
 
     -- no line reads it
     pub cause-unread : r ≡ read.Nothing → pick byU 1 2 ≡ causeOf held fallback (bytesOf c)
-    cause-unread e = cause-back unread (back-none held fallback (lineFound f) (sym reads ∙ ap pointIn e))
+    cause-unread e = cause-back unread (back-none held fallback (lineFound f) (sym reads ∙ ap pointReadAs e))
 
     -- it reads as u, which is written so
     module _ (u : ℕ) (point : r ≡ read.Point u) (g : Found) (wrote : PointFound rec (m .codes) (m .infos) (m .order) u g)
@@ -69,7 +70,7 @@ module _ (rec : Record) (m : Slices) (ok : valid limits rec m ≡ true)
       cause-written : causeBy (bytesOf c) byU (backBy (writtenIn w)) ≡ causeOf held fallback (bytesOf c)
       cause-written =
           cause-back (backBy (writtenIn w))
-          (back-some held fallback u (lineFound f) (sym reads ∙ ap pointIn point)
+          (back-some held fallback u (lineFound f) (sym reads ∙ ap pointReadAs point)
           ∙ ap backBy (found-writes rec m ok u g wrote fallback ∙ sym writes-so))
 
       pub cause-subchar1 : w ≡ written.Subchar1 → pick byU 1 4 ≡ causeOf held fallback (bytesOf c)
@@ -84,8 +85,8 @@ module _ (rec : Record) (m : Slices) (ok : valid limits rec m ≡ true)
             ap (λ (x : Bool). pick x 0 (pick byU 1 3)) s
             ∙ ap (λ (x : WrittenAs). causeBy (bytesOf c) byU (backBy (writtenIn x))) (sym e) ∙ cause-written
 
-        pub cause-home : true ≡ same (bytesOf d) (bytesOf c) → 0 ≡ causeOf held fallback (bytesOf c)
-        cause-home s = cause-code true s
+        pub cause-own : true ≡ same (bytesOf d) (bytesOf c) → 0 ≡ causeOf held fallback (bytesOf c)
+        cause-own s = cause-code true s
 
         pub cause-other : false ≡ same (bytesOf d) (bytesOf c) → pick byU 1 3 ≡ causeOf held fallback (bytesOf c)
         cause-other s = cause-code false s

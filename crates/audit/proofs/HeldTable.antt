@@ -10,7 +10,7 @@ use Rattle.lists.specs.Paging.{pageFrom}
 use Rattle.lists.proofs.Cases.{pick-yes}
 use Rattle.table.specs.Limits.{limits}
 use Rattle.table.specs.States.{endKind}
-use Rattle.table.specs.Codes.{before, bytesOf, nextOf}
+use Rattle.table.specs.Codes.{bytesOf, nextOf}
 use Rattle.table.specs.Meaning.{Line, Table, stepsOn, stepsOf, reader}
 use Rattle.table.specs.Rules.{t9, Keeps}
 use Rattle.table.specs.Slices.{Slices}
@@ -18,11 +18,13 @@ use Rattle.table.specs.Memory.{tableIn, Form, Proper}
 use Rattle.table.specs.Valid.{valid}
 use Rattle.table.specs.declared.states.Code.{Code}
 use Rattle.table.specs.declared.valid.Record.{Record}
-use Rattle.table.proofs.ValidLaws.{SameTable, form-valid}
-use Rattle.table.proofs.InMemory.{held-same, same-reader, same-writer}
-use Rattle.convert.proofs.SameLines.{writes-same}
-use Rattle.audit.specs.Audit.{backOf, backBy, causeBy, causeOf, findingOf, nextBytes, listing, refused, looked, isPosition, auditOn, auditTested}
+use Rattle.table.proofs.ValidLaws.{form-valid}
+use Rattle.table.specs.Forms.{SameTable}
+use Rattle.table.proofs.InMemory.{SameTable-tableIn, same-reader, same-writer}
+use Rattle.convert.proofs.SameLines.{writer⇒writes}
+use Rattle.audit.specs.Audit.{backOf, backBy, causeBy, causeOf, findingOf, nextBytes, pageableCodes, refused, looked, isPosition, auditOn, auditTested}
 use Rattle.audit.specs.declared.Ending.the-variants.{BadPosition, BadTable}
+use Rattle.lists.specs.Strings.{before}
 
 -- two tables with the same rows and, as members, the same lines
 module _ (t u : Table) (s : SameTable u t) (apart : t9 (t .lines) ≡ true) where
@@ -37,10 +39,10 @@ module _ (t u : Table) (s : SameTable u t) (apart : t9 (t .lines) ≡ true) wher
     where
       back-same : (o : Option Line) → backOf u fallback o ≡ backOf t fallback o
       back-same none = refl
-      back-same (some l) = ap backBy (writes-same t u fallback (l .point) (same-writer t u s apart (l .point)))
+      back-same (some l) = ap backBy (writer⇒writes t u fallback (l .point) (same-writer t u s apart (l .point)))
 
-  listing-same : (fallback : Bool) → listing u fallback ≡ listing t fallback
-  unfolding listing
+  listing-same : (fallback : Bool) → pageableCodes u fallback ≡ pageableCodes t fallback
+  unfolding pageableCodes
   listing-same fallback = λ i. record {
     start = [];
     after = before;
@@ -55,9 +57,9 @@ module _ (t u : Table) (s : SameTable u t) (apart : t9 (t .lines) ≡ true) wher
 
 -- a memory in the form of a table that keeps the rules
 module _ (t : Table) (p : Proper t) (k : Keeps limits t) (rec : Record) (m : Slices) (f : Form limits t rec m) where
-  pub audit-held : (fallback : Bool) (pos : Code) (allowance space : ℕ)
+  pub auditTested-auditOn : (fallback : Bool) (pos : Code) (allowance space : ℕ)
       → auditTested limits rec m fallback pos allowance space ≡ auditOn t fallback pos allowance space
   unfolding auditTested
-  audit-held fallback pos allowance space =
+  auditTested-auditOn fallback pos allowance space =
       pick-yes (valid limits rec m) (auditOn (tableIn rec m) fallback pos allowance space) (refused BadTable pos) (form-valid limits t p k rec m f)
-      ∙ audit-same t (tableIn rec m) (held-same limits t p k rec m f) (k .rule9) fallback pos allowance space
+      ∙ audit-same t (tableIn rec m) (SameTable-tableIn limits t p k rec m f) (k .rule9) fallback pos allowance space

@@ -3,7 +3,6 @@ pub mod Causes
 pub mod HeldTable
 pub mod CodeCalls
 pub mod LoadedTable
-pub mod Demand3
 pub mod Starred
 pub mod ValidMemory
 pub mod FoundCauses

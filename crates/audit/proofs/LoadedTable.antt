@@ -6,8 +6,8 @@ use mathlib.Core.Bool.{Bool}
 use mathlib.Core.List.{List}
 use lib.Dec.{lit≤}
 use Rattle.lists.specs.Order.{All}
-use Rattle.lists.specs.Paging.{notedBy}
-use Rattle.lists.proofs.Order.{all-map, all-both}
+use Rattle.lists.specs.Paging.{mapEntries}
+use Rattle.lists.proofs.Order.{All-⇒, All-×⁺}
 use Rattle.table.specs.Limits.{limits}
 use Rattle.table.specs.Meaning.{Table}
 use Rattle.table.specs.Rules.{Keeps}
@@ -19,7 +19,7 @@ use Rattle.table.specs.declared.valid.Record.{Record}
 use Rattle.table.proofs.LoadedForm.{LoadedForm, loaded-form}
 use Rattle.audit.specs.Audit.{Finding, Answer, auditOn, auditTested}
 use Rattle.audit.specs.Demand.{AuditCall, Gets, InTurn, Claims}
-use Rattle.audit.proofs.HeldTable.{audit-held}
+use Rattle.audit.proofs.HeldTable.{auditTested-auditOn}
 use Rattle.audit.proofs.CodeCalls.{OnTable, table-claims}
 
 -- an audit call on a record and these slices
@@ -27,11 +27,11 @@ abbrev pub auditIn : Record → Slices → Bool → Code → ℕ → ℕ → Ans
 auditIn rec m fallback pos allowance space =
     auditTested limits rec m fallback pos allowance space
 
--- a call answered as the definition has it, with each entry told by its number
+-- a call answered as the definition has it, with each entry as its number
 abbrev pub Answered : {F : Type 0} → (Finding → F) → AuditCall F → Type 0
 Answered number c =
     let a = auditIn (c .table) (c .memory) (c .fallback) (c .paged .came) (c .paged .allowance) (c .paged .space) in
-    (c .ending ≡ a .ending) × (c .paged .page ≡ notedBy number (a .page))
+    (c .ending ≡ a .ending) × (c .paged .page ≡ mapEntries number (a .page))
 
 -- any memory in the form of a table that keeps the rules
 module _ (t : Table) (p : Proper t) (k : Keeps limits t) (rec : Record) (m : Slices)
@@ -43,13 +43,13 @@ module _ (t : Table) (p : Proper t) (k : Keeps limits t) (rec : Record) (m : Sli
       let space = c .paged .space in
       let e : auditIn (c .table) (c .memory) (c .fallback) pos allowance space ≡ auditOn t fallback pos allowance space =
       (λ i. auditIn (g .0 i) (g .1 i) (g .2 i) pos allowance space)
-      ∙ audit-held t p k rec m f fallback pos allowance space in
-      (h .0 ∙ ap (λ (a : Answer). a .ending) e, h .1 ∙ ap (λ (a : Answer). notedBy number (a .page)) e)
+      ∙ auditTested-auditOn t p k rec m f fallback pos allowance space in
+      (h .0 ∙ ap (λ (a : Answer). a .ending) e, h .1 ∙ ap (λ (a : Answer). mapEntries number (a .page)) e)
 
   pub held-claims : (cs : List (AuditCall F)) → InTurn rec m fallback cs → All (Answered number) cs → Claims t fallback number cs
   held-claims cs g h =
       table-claims t fallback number k cs (g .1)
-      (all-map (λ c x. on-table c (x .0) (x .1)) cs (all-both (Gets rec m fallback) (Answered number) cs (g .0) h))
+      (All-⇒ (λ c x. on-table c (x .0) (x .1)) cs (All-×⁺ (Gets rec m fallback) (Answered number) cs (g .0) h))
 
 -- what loading an accepted text leaves is the form of its table
 module _ (text : List ℕ) (old : Slices) (t : Table) (e : given limits text old ≡ read (accepted t)) where
@@ -60,7 +60,7 @@ module _ (text : List ℕ) (old : Slices) (t : Table) (e : given limits text old
   pub audit-loaded : (fallback : Bool) (pos : Code) (allowance space : ℕ)
       → auditIn (loadedBy (given limits text old) .table) (leftIn limits (given limits text old) old) fallback pos allowance space ≡ auditOn t fallback pos allowance space
   audit-loaded fallback pos allowance space =
-      audit-held t (made .proper) (made .keeps) (loadedBy (given limits text old) .table) _ (made .form) fallback pos allowance space
+      auditTested-auditOn t (made .proper) (made .keeps) (loadedBy (given limits text old) .table) _ (made .form) fallback pos allowance space
 
   pub loaded-claims : (fallback : Bool) {F : Type 0} (number : Finding → F) (cs : List (AuditCall F))
       → InTurn (loadedBy (given limits text old) .table) (leftIn limits (given limits text old) old) fallback cs → All (Answered number) cs → Claims t fallback number cs

@@ -4,27 +4,27 @@ use mathlib.Core.Path.{_≡_, refl, ap, _∙_}
 use mathlib.Core.List.{List, map}
 use lib.Dec.{lit≤}
 use lib.ListN.{length}
-use Rattle.lists.specs.Order.{firstOf}
+use Rattle.lists.specs.Order.{firstOf, filtered}
 use Rattle.lists.specs.Paging.{pageFrom}
-use Rattle.lists.proofs.Order.{all-map, map-same}
+use Rattle.lists.proofs.Order.{All-⇒, map-≡⁻}
 use Rattle.unicode.specs.Utf8.{decodeOne, encodeOf}
 use Rattle.table.specs.States.{cutFrom, endKind}
-use Rattle.table.specs.Codes.{scan, codesFrom, before, after, packed, unpacked, codeOf}
-use Rattle.table.specs.Meaning.{flat, stepsOn, same, Table}
+use Rattle.table.specs.Codes.{scan, codesFrom, packed, unpacked, codeOf}
+use Rattle.lists.specs.Strings.{before, same}
+use Rattle.table.specs.Meaning.{flat, stepsOn, Table}
 use Rattle.table.specs.Limits.{limits}
-use Rattle.table.specs.Entry.{padded}
-use Rattle.table.specs.Slices.{Slices}
+use Rattle.table.specs.Stored.{padded}
+use Rattle.table.specs.Slices.{Slices, Lent}
 use Rattle.table.specs.Memory.{recordOf}
 use Rattle.table.specs.Load.{read, accepted, loadedBy, given}
 use Rattle.table.specs.TableK.{kText, tableK}
-use Rattle.table.specs.Progress.{Lent}
 use Rattle.table.proofs.GivenText.{given-lent}
 use Rattle.table.proofs.TextCases.{k-loaded}
 use Rattle.convert.specs.Run.{Run}
 use Rattle.convert.specs.Step.{utf8, toSequence, toStep, writes, fromStep}
 use Rattle.convert.specs.Convert.{toRun, fromRun}
 use Rattle.convert.proofs.LoadedText.{to-loaded, from-loaded}
-use Rattle.audit.specs.Audit.{Answer, causeOf, listing, isPosition, auditOn}
+use Rattle.audit.specs.Audit.{Answer, causeOf, pageableCodes, isPosition, auditOn}
 use Rattle.audit.specs.Cases.{Question, toUtf8, fromUtf8, audit, Seen, converts, calls, ask, seenAs, Case, cases, kLoaded, Holds, Starred}
 use Rattle.audit.proofs.LoadedTable.{audit-loaded}
 
@@ -54,7 +54,7 @@ abbrev expected : Case → List ℕ → Seen
 expected c out = seenAs (c .reply) out
 
 k-cases : map computed cases ≡ map expected cases
-unfolding cases tableK firstOf pageFrom decodeOne encodeOf stepsOn cutFrom endKind scan codesFrom before after packed unpacked flat same padded toSequence toStep writes fromStep causeOf listing isPosition auditOn
+unfolding cases tableK firstOf pageFrom decodeOne encodeOf stepsOn cutFrom endKind scan codesFrom before filtered packed unpacked flat same padded toSequence toStep writes fromStep causeOf pageableCodes isPosition auditOn
 k-cases = refl
 
 -- and on what the load left
@@ -72,4 +72,4 @@ module _ (old : Slices) (e : given limits kText old ≡ read (accepted tableK)) 
 pub starred : Starred
 starred old h =
     let e = k-given old h in
-    (ap loadedBy e ∙ k-record, all-map (holds old e) cases (map-same expected computed cases k-cases))
+    (ap loadedBy e ∙ k-record, All-⇒ (holds old e) cases (map-≡⁻ expected computed cases k-cases))

@@ -6,12 +6,13 @@ use mathlib.Core.Option.{some}
 use mathlib.Core.List.{List}
 use lib.Dec.{lit<}
 use lib.ListN.{length, set}
-use Rattle.lists.specs.Paging.{Listing, Page, isNone, pageFrom}
+use Rattle.lists.specs.Paging.{Pageable, Page, pageFrom}
+use Rattle.lists.specs.Options.{isNone}
 use Rattle.lists.proofs.PageLoop.{Handed, Standing, standing-passed, standing-listed, standing-over, standing-full, standing-spent}
 use Rattle.table.specs.Limits.{limits}
 use Rattle.table.specs.States.{stepAt}
 use Rattle.table.specs.Codes.{codeOf, bytesOf}
-use Rattle.table.specs.Marks.{marksOf, nextMarked}
+use Rattle.table.specs.loops.Marks.{marksOf, nextMarked}
 use Rattle.table.specs.Meaning.{Table}
 use Rattle.table.specs.Slices.{Slices}
 use Rattle.table.specs.Memory.{tableIn}
@@ -21,8 +22,9 @@ use Rattle.table.specs.declared.codes.Next.{Next}
 use Rattle.table.specs.declared.codes.Next.the-variants.{Found, Nothing}
 use Rattle.table.specs.declared.valid.Record.{Record}
 use Rattle.table.proofs.HeldMemory.{next-is-next}
-use Rattle.audit.specs.Audit.{Finding, findingOf, causeOf, nextBytes, listing, looked, entryNumber, lookedTo, auditedOf, spaceAfter}
+use Rattle.audit.specs.Audit.{Finding, findingOf, causeOf, nextBytes, pageableCodes, looked, entryNumber, auditedOf, spaceAfter}
 use Rattle.audit.specs.declared.Audited.{Audited}
+use Rattle.audit.specs.loops.Inner.{lookedTo}
 
 finding-some : (c : List ℕ) (w : ℕ) → (w ≡ 0 → ⊥) → findingOf c w ≡ some (record { code = c; cause = w })
 finding-some c zero h = absurd (h refl)
@@ -39,8 +41,8 @@ module _ (rec : Record) (lent : Slices) (ok : valid limits rec lent ≡ true) (f
   abbrev held : Table
   held = tableIn rec lent
 
-  abbrev codesIn : Listing (List ℕ) Finding (List ℕ)
-  codesIn = listing held fallback
+  abbrev codesIn : Pageable (List ℕ) Finding (List ℕ)
+  codesIn = pageableCodes held fallback
 
   -- the loop of a call from p stands at q
   abbrev Walking : ℕ → Code → Code → ℕ → ℕ → List ℕ → List ℕ → Type 0
@@ -52,7 +54,7 @@ module _ (rec : Record) (lent : Slices) (ok : valid limits rec lent ≡ true) (f
   module _ (marks : List ℕ) (m : marks ≡ marksOf (stepAt (lent .states))) (n : ℕ) (p : Code) (old : List ℕ) (q : Code) (used count : ℕ) (new : List ℕ)
       (w : Walking n p q used count old new) where
     next-is : (x : Next) → x ≡ nextMarked marks (stepAt (lent .states)) 0 (bytesOf q) → codesIn .next (bytesOf q) ≡ nextBytes x
-    unfolding listing
+    unfolding pageableCodes
     next-is x e =
         ap nextBytes
         (sym (e ∙ ap (λ (l : List ℕ). nextMarked l (stepAt (lent .states)) 0 (bytesOf q)) m
@@ -79,18 +81,18 @@ module _ (rec : Record) (lent : Slices) (ok : valid limits rec lent ≡ true) (f
         some-next = next-is x e ∙ ap nextBytes found
 
         note-is : codesIn .note (bytesOf c) ≡ findingOf (bytesOf c) why
-        unfolding listing
+        unfolding pageableCodes
         note-is = ap (findingOf (bytesOf c)) (sym because)
 
         listed-as : (why ≡ 0 → ⊥) → codesIn .note (bytesOf c) ≡ some (record { code = bytesOf c; cause = why })
         listed-as z = note-is ∙ finding-some (bytesOf c) why z
 
         pub step-passed : why ≡ 0 → Walking n p c used (count + 1) old new
-        unfolding listing
+        unfolding pageableCodes
         step-passed z = standing-passed codesIn entryNumber n (bytesOf p) old (bytesOf q) used count new w (bytesOf c) h some-next (note-is ∙ ap (findingOf (bytesOf c)) z)
 
         pub step-listed : (why ≡ 0 → ⊥) → used < length old → (v : ℕ) → v ≡ entryNumber (record { code = bytesOf c; cause = why }) → Walking n p c (used + 1) (count + 1) old (set new used v)
-        unfolding listing
+        unfolding pageableCodes
         step-listed z l v k = standing-listed codesIn entryNumber n (bytesOf p) old (bytesOf q) used count new w (bytesOf c) (record { code = bytesOf c; cause = why }) v h some-next (listed-as z) l k
 
         pub ends-full : (why ≡ 0 → ⊥) → used ≡ length new → Ends false

@@ -7,13 +7,13 @@ use lib.Dec.{eqb}
 use borrow.Author.Tests.{eqb-true, ne-eqb}
 use Rattle.lists.specs.Pick.{pick}
 use Rattle.lists.specs.Paging.{pageFrom}
-use Rattle.lists.proofs.Laws.{both-left}
+use Rattle.lists.proofs.Laws.{and-left}
 use Rattle.lists.proofs.Cases.{pick-yes, pick-no}
 use Rattle.table.specs.Limits.{limits}
 use Rattle.table.specs.States.{Rows, stepAt, endKind, isCode}
 use Rattle.table.specs.Codes.{codeOf, bytesOf}
 use Rattle.table.specs.Meaning.{stepsOf}
-use Rattle.table.specs.Entry.{padded}
+use Rattle.table.specs.Stored.{padded}
 use Rattle.table.specs.Slices.{Slices}
 use Rattle.table.specs.Memory.{tableIn}
 use Rattle.table.specs.Valid.{valid}
@@ -21,10 +21,10 @@ use Rattle.table.specs.declared.states.Code.{Code}
 use Rattle.table.specs.declared.valid.Record.{Record}
 use Rattle.table.proofs.Packing.{length-unpacked, pack-unpack}
 use Rattle.table.proofs.CodePositions.{none-code, code-none}
-use Rattle.audit.specs.Audit.{Answer, numberOf, answerNumber, listing, refused, looked, isPosition, auditOn, auditTested, auditedOf, spaceAfter}
+use Rattle.audit.specs.Audit.{Answer, endingNumber, auditNumber, pageableCodes, refused, looked, isPosition, auditOn, auditTested, auditedOf, spaceAfter}
 use Rattle.audit.specs.declared.Audited.{Audited}
 use Rattle.audit.specs.declared.Ending.the-variants.{BadPosition, BadTable}
-use Rattle.audit.proofs.ValidMemory.{position-held}
+use Rattle.audit.proofs.ValidMemory.{isPosition-tableIn}
 
 -- a position is the code of its bytes
 pub position-packed : (step : Rows) (pos : Code) → isPosition step pos ≡ true → pos ≡ codeOf (bytesOf pos)
@@ -38,7 +38,7 @@ position-packed step pos h = go (eqb (pos .len) 0) refl h
         let z : pos ≡ record { bits = 0; len = 0 } = (λ i. record { bits = b i; len = n i }) in
         z ∙ sym none-code ∙ ap codeOf (sym code-none ∙ ap bytesOf (sym z))
     go false e k =
-        let pad = both-left (padded (pos .len) (pos .bits)) _ k in
+        let pad = and-left (padded (pos .len) (pos .bits)) _ k in
         (λ i. record { bits = sym (pack-unpack (pos .len) (pos .bits) pad) i; len = sym (length-unpacked (pos .len) (pos .bits)) i })
 
 -- one that has bytes: with zeros in its unused bits, and a complete code
@@ -69,16 +69,16 @@ module _ (rec : Record) (m : Slices) (fallback : Bool) (pos : Code) (allowance s
 
     pub audit-misplaced : isPosition (stepAt (m .states)) pos ≡ false → auditTested limits rec m fallback pos allowance space ≡ refused BadPosition pos
     unfolding auditOn
-    audit-misplaced h = audit-on ∙ pick-no (isPosition (stepsOf (tableIn rec m)) pos) _ _ (sym (position-held rec m ok pos fits) ∙ h)
+    audit-misplaced h = audit-on ∙ pick-no (isPosition (stepsOf (tableIn rec m)) pos) _ _ (sym (isPosition-tableIn rec m ok pos fits) ∙ h)
 
     pub audit-placed : isPosition (stepAt (m .states)) pos ≡ true
-        → auditTested limits rec m fallback pos allowance space ≡ looked (pageFrom (listing (tableIn rec m) fallback) allowance space (bytesOf pos))
+        → auditTested limits rec m fallback pos allowance space ≡ looked (pageFrom (pageableCodes (tableIn rec m) fallback) allowance space (bytesOf pos))
     unfolding auditOn
-    audit-placed h = audit-on ∙ pick-yes (isPosition (stepsOf (tableIn rec m)) pos) _ _ (sym (position-held rec m ok pos fits) ∙ h)
+    audit-placed h = audit-on ∙ pick-yes (isPosition (stepsOf (tableIn rec m)) pos) _ _ (sym (isPosition-tableIn rec m ok pos fits) ∙ h)
 
 -- what is promised of an answer is promised of its equal
-pub answer-same : (a b : Answer) → a ≡ b → (r : Audited) (old new : List ℕ) → (r ≡ auditedOf b) × (new ≡ spaceAfter b old)
-    → (r ≡ auditedOf a) × (new ≡ spaceAfter a old) × (numberOf (r .ending) ≡ answerNumber a)
-answer-same a b e r old new h =
+pub answer-≡ : (a b : Answer) → a ≡ b → (r : Audited) (old new : List ℕ) → (r ≡ auditedOf b) × (new ≡ spaceAfter b old)
+    → (r ≡ auditedOf a) × (new ≡ spaceAfter a old) × (endingNumber (r .ending) ≡ auditNumber a)
+answer-≡ a b e r old new h =
     let p : r ≡ auditedOf a = h .0 ∙ ap auditedOf (sym e) in
-    (p, h .1 ∙ ap (λ (x : Answer). spaceAfter x old) (sym e), ap (λ (x : Audited). numberOf (x .ending)) p)
+    (p, h .1 ∙ ap (λ (x : Answer). spaceAfter x old) (sym e), ap (λ (x : Audited). endingNumber (x .ending)) p)

@@ -1,5 +1,8 @@
--- The starred cases of document 01: what the load of K's own text answers, and what calls on the record and memory that it left
--- answer, in the words of the functions' own promises, whatever the lent slices held before.
+-- The starred cases (document 01, 'Table K, and what it gives', 1 to 8): what the load of K's own text answers, and
+-- what calls on the record and memory that it left answer, in the words of the functions' own promises, whatever the
+-- lent slices held before.
+-- Contents: a question and its reply; what a caller sees; the cases, in their order; `Starred`. Proved in
+-- proofs/Starred.antt.
 use Prim.Native.Nat.{ℕ}
 use mathlib.Core.Path.{_≡_}
 use mathlib.Core.Bool.{Bool, true, false}
@@ -8,19 +11,18 @@ use lib.ListN.{length, drop}
 use Rattle.lists.specs.Order.{All}
 use Rattle.table.specs.Limits.{limits}
 use Rattle.table.specs.Codes.{codeOf}
-use Rattle.table.specs.Slices.{Slices}
+use Rattle.table.specs.Slices.{Slices, Lent}
 use Rattle.table.specs.Load.{loadedBy, given, leftIn}
 use Rattle.table.specs.TableK.{kText}
-use Rattle.table.specs.Progress.{Lent}
 use Rattle.table.specs.declared.states.Code.{Code}
 use Rattle.table.specs.declared.valid.Record.{Record}
 use Rattle.table.specs.declared.load.Answer.the-variants.{Accepted}
 use Rattle.table.specs.declared.load.Loaded.{Loaded}
-use Rattle.convert.specs.Run.{Run, doneOf, putOut, haltNumber}
+use Rattle.convert.specs.Run.{Run, convertedOf, putOut, endNumber}
 use Rattle.convert.specs.Step.{utf8, strict, substituting}
 use Rattle.convert.specs.Convert.{toTested, fromTested}
 use Rattle.convert.specs.declared.Settings.{Settings}
-use Rattle.audit.specs.Audit.{Finding, Answer, numberOf, auditTested, entryNumber, auditedOf, spaceAfter}
+use Rattle.audit.specs.Audit.{Finding, Answer, endingNumber, auditTested, entryNumber, auditedOf, spaceAfter}
 
 -- fallback off or on
 abbrev off : Bool
@@ -35,25 +37,27 @@ pub data Question : Type 0 where
   fromUtf8 : Settings → List ℕ → Question
   audit : Bool → List ℕ → ℕ → Question
 
--- what is expected: a conversion's number, bytes read and output; an audit call's number, entries, count, position, and whether it is finished
+-- what is expected: a conversion's number, bytes read and output; an audit call's number, entries, count, position, and
+-- whether it is finished
 pub data Reply : Type 0 where
   converted : ℕ → ℕ → List ℕ → Reply
   audited : ℕ → List Finding → ℕ → List ℕ → Bool → Reply
 
--- what a caller sees: a conversion's number, bytes read and written, and the output slice afterwards;
--- an audit call's number, entries written, count, position, whether it is finished, and the space for entries afterwards
+-- what a caller sees: a conversion's number, bytes read and written, and the output slice afterwards; an audit call's
+-- number, entries written, count, position, whether it is finished, and the space for entries afterwards
 pub data Seen : Type 0 where
   conversion : ℕ → ℕ → ℕ → List ℕ → Seen
   call : ℕ → ℕ → ℕ → Code → Bool → List ℕ → Seen
 
 -- by the functions' promises, where the lent output slice was `out`
 abbrev pub converts : Run → List ℕ → Seen
-converts r out = conversion (haltNumber (doneOf r .halt)) (doneOf r .read) (doneOf r .written) (putOut r out)
+converts r out =
+    conversion (endNumber (convertedOf r .end)) (convertedOf r .read) (convertedOf r .written) (putOut r out)
 
 abbrev pub calls : Answer → List ℕ → Seen
 calls a out =
     let d = auditedOf a in
-    call (numberOf (d .ending)) (d .written) (d .count) (d .position) (d .finished) (spaceAfter a out)
+    call (endingNumber (d .ending)) (d .written) (d .count) (d .position) (d .finished) (spaceAfter a out)
 
 -- on a record and slices
 abbrev pub askOn : Record → Slices → List ℕ → Question → Seen
@@ -68,7 +72,7 @@ askOn rec m out (audit fallback position allowance) =
 unfoldable pub ask : Slices → List ℕ → Question → Seen
 ask old out q = askOn (loadedBy (given limits kText old) .table) (leftIn limits (given limits kText old) old) out q
 
--- what is expected, as a caller sees it: output or entries at the front of the slice, and behind them its old values
+-- what is expected, as a caller sees it: output or entries at the front of the slice, and after them its old values
 abbrev pub seenAs : Reply → List ℕ → Seen
 seenAs (converted number read output) out = conversion number read (length output) (output ++ drop (length output) out)
 seenAs (audited number entries count position finished) out =
@@ -134,7 +138,7 @@ cases =
     ++ to strictly (0x81 ∷ 0x80 ∷ []) 16 (converted 53 0 [])
     -- 6: 81 7C with two bytes of space: 50, read 0, written 0
     ++ to every (0x81 ∷ 0x7c ∷ []) 2 (converted 50 0 [])
-    -- 7: 7 complete codes; the list is 3F cause 2, 81 7D cause 3, 81 80 cause 1: one call from the beginning that is finished
+    -- 7: 7 complete codes; the list is 3F cause 2, 81 7D cause 3, 81 80 cause 1: one call from the beginning, finished
     ++ auditing [] 16 16 (audited 0 kList 7 (0x81 ∷ 0x80 ∷ []) true)
     -- 8: allowance 0 at the beginning: count 0, not finished. Position 81: 40
     ++ auditing [] 0 16 (audited 0 [] 0 [] false)
@@ -142,17 +146,27 @@ cases =
 
 -- K's text is accepted, line 0, with this record
 abbrev pub kLoaded : Loaded
-kLoaded = record {
-  answer = Accepted;
-  line = 0;
-  table = record { rows = 2; mappings = 6; min = 1; max = 2; subchar = record { bits = 0x3f000000; len = 1 }; subchar1 = 0 };
-}
+kLoaded =
+    record {
+      answer = Accepted;
+      line = 0;
+      table =
+          record {
+            rows = 2;
+            mappings = 6;
+            min = 1;
+            max = 2;
+            subchar = record { bits = 0x3f000000; len = 1 };
+            subchar1 = 0;
+          };
+    }
 
 -- a case holds, whatever the output slice held
 abbrev pub Holds : Slices → Case → Type 0
 Holds old c = (out : List ℕ) → length out ≡ c .space → ask old out (c .question) ≡ seenAs (c .reply) out
 
--- THE STARRED CASES: whatever was held by slices that are long enough, K's text is accepted with K's record, and each case holds
+-- THE STARRED CASES: whatever was held by slices that are long enough, K's text is accepted with K's record, and each
+-- case holds
 abbrev pub Starred : Type 0
 Starred =
     (old : Slices) → Lent limits old

@@ -1,3 +1,4 @@
 pub mod Audit
 pub mod Demand
 pub mod Cases
+pub mod loops

@@ -10,27 +10,34 @@ ghost use mathlib.Core.Path.{_≡_};
 ghost use mathlib.Core.Bool.{true};
 ghost use lib.Dec.{eqb};
 ghost use lib.ListN.{length};
-ghost use Rattle.lists.specs.Pick.{pick};
-ghost use Rattle.lists.specs.Paging.{isNone, pageFrom};
+ghost use Rattle.lists.specs.Paging.{pageFrom};
+ghost use Rattle.lists.specs.Options.{isNone};
 ghost use Rattle.table.specs.Limits.{limits};
 ghost use Rattle.table.specs.States.{stepAt, endKind};
 ghost use Rattle.table.specs.Codes.{codeOf, bytesOf};
-ghost use Rattle.table.specs.Meaning.{same};
-ghost use Rattle.table.specs.Entry.{padded};
+ghost use Rattle.lists.specs.Strings.{same};
+ghost use Rattle.table.specs.Stored.{padded};
 ghost use Rattle.table.specs.Slices.{slices};
 ghost use Rattle.table.specs.Memory.{tableIn};
 ghost use Rattle.table.specs.Valid.{valid};
-ghost use Rattle.audit.specs.Audit.{causeOf, nextBytes, listing, numberOf, answerNumber, refused, looked, isPosition, auditTested, entryNumber, entryIn, lookedTo, auditedOf, spaceAfter};
+ghost use Rattle.audit.specs.Audit.{causeOf, nextBytes, pageableCodes, endingNumber, auditNumber, refused};
+ghost use Rattle.audit.specs.Audit.{looked};
+ghost use Rattle.audit.specs.Audit.{isPosition, auditTested, entryNumber, entryIn, auditedOf, spaceAfter};
+ghost use Rattle.audit.specs.loops.Inner.{lookedTo};
+ghost use Rattle.lists.specs.Pick.{if_then_else_};
 
-// How an audit call ends: codes were looked at; its position is neither the beginning nor a complete code; the table is not valid.
+// How an audit call ends, by number.
 pub enum Ending {
+    // 0: codes were looked at. Unless `finished`, call again from the position that came back.
     Looked,
+    // 40: the position is neither the beginning nor a complete code. Call with one that a call handed back.
     BadPosition,
+    // 60: the record and the memory are no valid table. Load the table again.
     BadTable,
 }
 
-// What a call hands back: how it ended, how many entries it wrote, the position of the last code looked at (or the old one),
-// whether no complete code follows it, and how many codes were looked at.
+// What a call hands back: how it ended, how many entries it wrote, the position of the last code looked at (or the old
+// position), whether no complete code follows it, and how many codes were looked at.
 pub struct Audited {
     pub ending: Ending,
     pub written: usize,
@@ -40,14 +47,19 @@ pub struct Audited {
 }
 
 // A code that does not round-trip, and its cause.
-pub struct Entry {
+pub struct AuditEntry {
     pub code: Code,
     pub cause: u32,
 }
 
+// The units of an entry's length and of its cause, above the 32 bits of its code.
+const LENGTH: u64 = 4294967296;
+
+const CAUSE: u64 = LENGTH * 256;
+
 // The number of an ending.
 pub fn ending_number(e: Ending) -> u32
-    ensures { λ r. ⌜ r ≡ numberOf e ⌝ }
+    ensures { λ r. ⌜ r ≡ endingNumber e ⌝ }
 {
     match e {
         Ending::Looked => 0,
@@ -71,7 +83,8 @@ fn is_position(states: &[u16], pos: Code) -> bool
 
 // The lowest cause of a code that does not round-trip: 1 where it is ended by `u`, else the other.
 fn lowest_cause(states: &[u16], code: Code, other: u8) -> u8
-    ensures { λ r. ⌜ r ≡ pick (eqb (endKind (stepAt (now (states .entry))) 0 (bytesOf code)) 3) 1 other ⌝ }
+    ensures { λ r. ⌜ (let kind = endKind (stepAt (now (states .entry))) 0 (bytesOf code) in
+        r ≡ (if eqb kind 3 then 1 else other)) ⌝ }
 {
     if table::states::end_kind(states, 0, code) == 3 {
         return 1;
@@ -100,8 +113,11 @@ fn cause(
     fallback: bool,
     code: Code,
 ) -> u8
-    requires { ⌜ (valid limits rec (slices (now states) (now codes) (now infos) (now order)) ≡ true) × (padded (code .len) (code .bits) ≡ true) ⌝ }
-    ensures { λ r. ⌜ r ≡ causeOf (tableIn rec (slices (now (states .entry)) (now (codes .entry)) (now (infos .entry)) (now (order .entry)))) fallback (bytesOf code) ⌝ }
+    requires { ⌜ (valid limits rec (slices (now states) (now codes) (now infos) (now order)) ≡ true)
+        × (padded (code .len) (code .bits) ≡ true) ⌝ }
+    ensures { λ r. ⌜ (let m =
+        slices (now (states .entry)) (now (codes .entry)) (now (infos .entry)) (now (order .entry)) in
+        r ≡ causeOf (tableIn rec m) fallback (bytesOf code)) ⌝ }
 {
     let ReadAs::Point(point) = read_as(table::lookup::find_code(rec, codes, infos, code)) else {
         return lowest_cause(states, code, 2);
@@ -124,19 +140,19 @@ fn entry_number(code: Code, cause: u8) -> u64
     requires { ⌜ padded (code .len) (code .bits) ≡ true ⌝ }
     ensures { λ r. ⌜ r ≡ entryNumber (record { code = bytesOf code; cause = cause }) ⌝ }
 {
-    (code.bits as u64) + 4294967296 * (code.len as u64) + 1099511627776 * (cause as u64)
+    (code.bits as u64) + LENGTH * (code.len as u64) + CAUSE * (cause as u64)
 }
 
 // An entry taken apart: the code, and the cause.
-pub fn entry_in(number: u64) -> Entry
+pub fn entry_in(number: u64) -> AuditEntry
     ensures { λ r. ⌜ r ≡ entryIn number ⌝ }
 {
-    Entry {
+    AuditEntry {
         code: Code {
-            bits: (number % 4294967296) as u32,
-            len: (number / 4294967296 % 256) as u32,
+            bits: (number % LENGTH) as u32,
+            len: (number / LENGTH % 256) as u32,
         },
-        cause: (number / 1099511627776) as u32,
+        cause: (number / CAUSE) as u32,
     }
 }
 
@@ -176,7 +192,8 @@ fn refusal(ending: Ending, position: Code) -> Audited
     }
 }
 
-// Looks at the codes after a position. Which rows can still end a code is found once, so that a step costs the same anywhere.
+// Looks at the codes after a position. It marks the rows that can still end a code once, so that each step costs the
+// same.
 fn walk(
     rec: Record,
     states: &[u16],
@@ -188,9 +205,12 @@ fn walk(
     allowance: u64,
     entries: &mut [u64],
 ) -> Audited
-    requires { ⌜ (valid limits rec (slices (now states) (now codes) (now infos) (now order)) ≡ true) × (position ≡ codeOf (bytesOf position)) ⌝ }
-    ensures { λ r. ⌜ (let m = slices (now (states .entry)) (now (codes .entry)) (now (infos .entry)) (now (order .entry)) in
-        let a = looked (pageFrom (listing (tableIn rec m) fallback) allowance (length (now (entries .entry))) (bytesOf position)) in
+    requires { ⌜ (valid limits rec (slices (now states) (now codes) (now infos) (now order)) ≡ true)
+        × (position ≡ codeOf (bytesOf position)) ⌝ }
+    ensures { λ r. ⌜ (let m =
+        slices (now (states .entry)) (now (codes .entry)) (now (infos .entry)) (now (order .entry)) in
+        let room = length (now (entries .entry)) in
+        let a = looked (pageFrom (pageableCodes (tableIn rec m) fallback) allowance room (bytesOf position)) in
         (r ≡ auditedOf a)
         × (now (entries .exit) ≡ spaceAfter a (now (entries .entry)))) ⌝ }
 {
@@ -220,8 +240,8 @@ fn walk(
     handed_back(written, at, last, count)
 }
 
-// One audit call. A position is the beginning (no bytes) or a complete code; each code looked at takes one from the allowance, and
-// each that does not round-trip one place of the entries. Unused places keep their values.
+// One audit call. A position is the beginning (no bytes) or a complete code. Each code looked at takes one from the
+// allowance, and each code that does not round-trip takes one place of the entries. Unused places keep their values.
 pub fn audit(
     rec: Record,
     states: &[u16],
@@ -233,11 +253,12 @@ pub fn audit(
     allowance: u64,
     entries: &mut [u64],
 ) -> Audited
-    ensures { λ r. ⌜ (let m = slices (now (states .entry)) (now (codes .entry)) (now (infos .entry)) (now (order .entry)) in
+    ensures { λ r. ⌜ (let m =
+        slices (now (states .entry)) (now (codes .entry)) (now (infos .entry)) (now (order .entry)) in
         let a = auditTested limits rec m fallback position allowance (length (now (entries .entry))) in
         (r ≡ auditedOf a)
         × (now (entries .exit) ≡ spaceAfter a (now (entries .entry)))
-        × (numberOf (r .ending) ≡ answerNumber a)) ⌝ }
+        × (endingNumber (r .ending) ≡ auditNumber a)) ⌝ }
 {
     if !table::valid::memory_valid(rec, states, codes, infos, order) {
         return refusal(Ending::BadTable, position);

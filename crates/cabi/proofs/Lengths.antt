@@ -11,25 +11,27 @@ use Rattle.table.specs.Slices.{Slices}
 use Rattle.table.specs.Valid.{valid}
 use Rattle.cabi.specs.Exported.{recordIn, ifFewer, ifShort, checkNumber}
 
-pub fewer : {A : Type 0} (n : ℕ) (slice : List ℕ) (a b : A) → length slice < n → ifFewer n slice a b ≡ a
-unfolding ifFewer
-fewer n slice a b h = search tests
+module _ {A : Type 0} (n : ℕ) (slice : List ℕ) (a b : A) where
+  pub fewer : length slice < n → ifFewer n slice a b ≡ a
+  unfolding ifFewer
+  fewer h = search tests
 
-pub enough : {A : Type 0} (n : ℕ) (slice : List ℕ) (a b : A) → n ≤ length slice → ifFewer n slice a b ≡ b
-unfolding ifFewer
-enough n slice a b h = search tests
+  pub enough : n ≤ length slice → ifFewer n slice a b ≡ b
+  unfolding ifFewer
+  enough h = search tests
 
-pub short-record : {A : Type 0} (n : ℕ) (rec result : List ℕ) (a b : A) → length rec < 7 → ifShort n rec result a b ≡ a
-unfolding ifShort
-short-record n rec result a b h = fewer 7 rec a (ifFewer n result a b) h
+module _ {A : Type 0} (n : ℕ) (rec result : List ℕ) (a b : A) where
+  pub short-record : length rec < 7 → ifShort n rec result a b ≡ a
+  unfolding ifShort
+  short-record h = fewer 7 rec a (ifFewer n result a b) h
 
-pub short-result : {A : Type 0} (n : ℕ) (rec result : List ℕ) (a b : A) → 7 ≤ length rec → length result < n → ifShort n rec result a b ≡ a
-unfolding ifShort
-short-result n rec result a b h k = enough 7 rec a (ifFewer n result a b) h ∙ fewer n result a b k
+  pub short-result : 7 ≤ length rec → length result < n → ifShort n rec result a b ≡ a
+  unfolding ifShort
+  short-result h k = enough 7 rec a (ifFewer n result a b) h ∙ fewer n result a b k
 
-pub long-enough : {A : Type 0} (n : ℕ) (rec result : List ℕ) (a b : A) → 7 ≤ length rec → n ≤ length result → ifShort n rec result a b ≡ b
-unfolding ifShort
-long-enough n rec result a b h k = enough 7 rec a (ifFewer n result a b) h ∙ enough n result a b k
+  pub long-enough : 7 ≤ length rec → n ≤ length result → ifShort n rec result a b ≡ b
+  unfolding ifShort
+  long-enough h k = enough 7 rec a (ifFewer n result a b) h ∙ enough n result a b k
 
 -- the test behind 60, on a record of too few numbers and on one of seven
 pub unchecked : (rec : List ℕ) (m : Slices) → length rec < 7 → checkNumber rec m ≡ 70

@@ -1,10 +1,12 @@
--- What the exported functions answer, and what they leave in the lent slices.
+-- What the functions exported to C answer, and what they leave in the lent slices, by document 01's own functions: the
+-- record as seven numbers, settings as numbers, each answer as a number and a slice of results. 70 is the number for a
+-- slice that is too short.
 use Prim.Native.Nat.{ℕ}
 use mathlib.Core.Bool.{Bool, not}
 use mathlib.Core.List.{List, [], _∷_}
 use lib.Dec.{eqb, ltb}
 use lib.ListN.{length, getD}
-use Rattle.lists.specs.Pick.{pick}
+use Rattle.lists.specs.Pick.{if_then_else_}
 use Rattle.lists.specs.Place.{placed}
 use Rattle.table.specs.Limits.{limits}
 use Rattle.table.specs.Slices.{Slices}
@@ -16,7 +18,7 @@ use Rattle.convert.specs.Run.{Run}
 use Rattle.convert.specs.Step.{utf8}
 use Rattle.convert.specs.Convert.{toTested, fromTested}
 use Rattle.convert.specs.declared.Settings.{Settings}
-use Rattle.audit.specs.Audit.{Answer as AuditAnswer, auditTested}
+use Rattle.audit.specs.Audit.{auditTested, Answer as AuditAnswer}
 use Rattle.audit.specs.declared.Audited.{Audited}
 
 -- the record that seven numbers stand for
@@ -41,7 +43,7 @@ settingsIn fallback substitute = record { fallback = isOn fallback; substitute =
 
 -- the first where the slice has fewer than n numbers, else the second
 unfoldable pub ifFewer : {A : Type 0} → ℕ → List ℕ → A → A → A
-ifFewer n slice short done = pick (ltb (length slice) n) short done
+ifFewer n slice short done = if ltb (length slice) n then short else done
 
 -- the first where the record has fewer than seven numbers or the result slice fewer than n, else the second
 unfoldable pub ifShort : {A : Type 0} → ℕ → List ℕ → List ℕ → A → A → A
@@ -60,7 +62,7 @@ loadedNumbers l =
 -- oboepond_check: 0 where record and memory pass the test behind 60
 unfoldable pub checkNumber : List ℕ → Slices → ℕ
 checkNumber rec m =
-    ifFewer 7 rec 70 (pick (valid limits (recordIn rec) m) 0 60)
+    ifFewer 7 rec 70 (if valid limits (recordIn rec) m then 0 else 60)
 
 -- what a conversion hands back beside its number: bytes read, bytes written
 abbrev pub runNumbers : Run → List ℕ
@@ -76,9 +78,11 @@ abbrev pub fromExported : List ℕ → Slices → ℕ → ℕ → List ℕ → �
 fromExported rec m fallback substitute input room =
     fromTested utf8 limits (recordIn rec) m (settingsIn fallback substitute) input room
 
--- what an audit call hands back beside its number: entries written, the position's bits and length, 1 where finished, the count
+-- what an audit call hands back beside its number: entries written, the position's bits and length, 1 where finished,
+-- count
 abbrev pub auditedNumbers : Audited → List ℕ
-auditedNumbers a = a .written ∷ a .position .bits ∷ a .position .len ∷ pick (a .finished) 1 0 ∷ a .count ∷ []
+auditedNumbers a =
+    a .written ∷ a .position .bits ∷ a .position .len ∷ (if a .finished then 1 else 0) ∷ a .count ∷ []
 
 abbrev pub positionAt : ℕ → ℕ → Code
 positionAt bits len = record { bits = bits; len = len }

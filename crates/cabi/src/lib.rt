@@ -1,6 +1,7 @@
-// The functions for C and Rust: each takes its arguments apart, calls the library, and puts the results into lent slices.
+// The functions for C and Rust: each takes its arguments apart, calls the library, and writes the results into lent
+// slices.
 use audit::Audited;
-use convert::Done;
+use convert::Converted;
 use convert::Settings;
 use table::load::Loaded;
 use table::states::Code;
@@ -9,14 +10,15 @@ ghost use mathlib.Core.Path.{_≡_};
 ghost use mathlib.Core.List.{[], _∷_};
 ghost use Prim.Native.Nat.{_≤_};
 ghost use lib.ListN.{length};
-ghost use Rattle.lists.specs.Pick.{pick};
+ghost use Rattle.lists.specs.Pick.{if_then_else_};
 ghost use Rattle.table.specs.Limits.{limits};
 ghost use Rattle.table.specs.Slices.{slices};
 ghost use Rattle.table.specs.Numbers.{answerNumber};
 ghost use Rattle.table.specs.Load.{givenNumber, loadedBy, given, leftIn};
-ghost use Rattle.convert.specs.Run.{putOut, haltNumber};
-ghost use Rattle.audit.specs.Audit.{auditedOf, spaceAfter, numberOf as endingNumber};
-ghost use Rattle.cabi.specs.Exported.{recordIn, ifFewer, ifShort, withNumbers, loadedNumbers, checkNumber, runNumbers, toExported, fromExported, auditedNumbers, auditExported};
+ghost use Rattle.convert.specs.Run.{putOut, endNumber};
+ghost use Rattle.audit.specs.Audit.{auditedOf, spaceAfter, endingNumber};
+ghost use Rattle.cabi.specs.Exported.{recordIn, ifFewer, ifShort, withNumbers, loadedNumbers, checkNumber};
+ghost use Rattle.cabi.specs.Exported.{runNumbers, toExported, fromExported, auditedNumbers, auditExported};
 
 // This layer's own number: a record or a result slice is too short, and nothing else happened.
 const SHORT: u32 = 70;
@@ -42,7 +44,7 @@ fn record_in(numbers: &[u32]) -> Record
     }
 }
 
-// Puts numbers at the front of a result slice.
+// Writes numbers to the front of a result slice.
 fn put_numbers(numbers: &[u64], result: &mut [u64])
     requires { ⌜ length (now numbers) ≤ length (now result) ⌝ }
     ensures { λ _. ⌜ now (result .exit) ≡ withNumbers (now (numbers .entry)) (now (result .entry)) ⌝ }
@@ -54,21 +56,23 @@ fn put_numbers(numbers: &[u64], result: &mut [u64])
     }
 }
 
-// Puts the counts of a conversion, and gives its number.
-fn put_done(done: Done, result: &mut [u64]) -> u32
+// Writes the counts of a conversion, and answers its number.
+fn put_done(done: Converted, result: &mut [u64]) -> u32
     requires { ⌜ 2 ≤ length (now result) ⌝ }
-    ensures { λ r. ⌜ (r ≡ haltNumber (done .halt)) × (now (result .exit) ≡ withNumbers (done .read ∷ done .written ∷ []) (now (result .entry))) ⌝ }
+    ensures { λ r. ⌜ (r ≡ endNumber (done .end))
+        × (now (result .exit) ≡ withNumbers (done .read ∷ done .written ∷ []) (now (result .entry))) ⌝ }
 {
     let numbers = [done.read as u64, done.written as u64];
     put_numbers(&numbers, result);
-    let halt = done.halt;
-    convert::halt_number(halt)
+    let end = done.end;
+    convert::end_number(end)
 }
 
-// Puts line and record of a loaded text, and gives its number.
+// Writes the line and the record of a loaded text, and answers its number.
 fn put_loaded(loaded: Loaded, result: &mut [u64]) -> u32
     requires { ⌜ 8 ≤ length (now result) ⌝ }
-    ensures { λ r. ⌜ (r ≡ answerNumber (loaded .answer)) × (now (result .exit) ≡ withNumbers (loadedNumbers loaded) (now (result .entry))) ⌝ }
+    ensures { λ r. ⌜ (r ≡ answerNumber (loaded .answer))
+        × (now (result .exit) ≡ withNumbers (loadedNumbers loaded) (now (result .entry))) ⌝ }
 {
     let held = loaded.table;
     let sub = held.subchar;
@@ -97,11 +101,14 @@ pub extern "C" fn oboepond_load(
     order: &mut [u32],
     result: &mut [u64],
 ) -> u32
-    ensures { λ r. ⌜ (let old = slices (now (states .entry)) (now (codes .entry)) (now (infos .entry)) (now (order .entry)) in
+    ensures { λ r. ⌜ (let old =
+        slices (now (states .entry)) (now (codes .entry)) (now (infos .entry)) (now (order .entry)) in
         let g = given limits (now (text .entry)) old in
-        (r ≡ ifFewer 8 (now (result .entry)) 70 (givenNumber g))
-        × (slices (now (states .exit)) (now (codes .exit)) (now (infos .exit)) (now (order .exit)) ≡ ifFewer 8 (now (result .entry)) old (leftIn limits g old))
-        × (now (result .exit) ≡ ifFewer 8 (now (result .entry)) (now (result .entry)) (withNumbers (loadedNumbers (loadedBy g)) (now (result .entry))))) ⌝ }
+        let before = now (result .entry) in
+        (r ≡ ifFewer 8 before 70 (givenNumber g))
+        × (slices (now (states .exit)) (now (codes .exit)) (now (infos .exit)) (now (order .exit))
+        ≡ ifFewer 8 before old (leftIn limits g old))
+        × (now (result .exit) ≡ ifFewer 8 before before (withNumbers (loadedNumbers (loadedBy g)) before))) ⌝ }
 {
     if result.len() < 8 {
         return SHORT;
@@ -119,7 +126,9 @@ pub extern "C" fn oboepond_check(
     infos: &[u32],
     order: &[u32],
 ) -> u32
-    ensures { λ r. ⌜ r ≡ checkNumber (now (rec .entry)) (slices (now (states .entry)) (now (codes .entry)) (now (infos .entry)) (now (order .entry))) ⌝ }
+    ensures { λ r. ⌜ (let m =
+        slices (now (states .entry)) (now (codes .entry)) (now (infos .entry)) (now (order .entry)) in
+        r ≡ checkNumber (now (rec .entry)) m) ⌝ }
 {
     if rec.len() < RECORD {
         return SHORT;
@@ -144,14 +153,15 @@ pub extern "C" fn oboepond_to_utf8(
     substitute: u32,
     result: &mut [u64],
 ) -> u32
-    ensures { λ r. ⌜ (let m = slices (now (states .entry)) (now (codes .entry)) (now (infos .entry)) (now (order .entry)) in
-        let run = toExported (now (rec .entry)) m substitute (now (input .entry)) (length (now (output .entry))) in
-        (r ≡ ifShort 2 (now (rec .entry)) (now (result .entry)) 70
-        (haltNumber (run .halt)))
-        × (now (output .exit) ≡ ifShort 2 (now (rec .entry)) (now (result .entry)) (now (output .entry))
-        (putOut run (now (output .entry))))
-        × (now (result .exit) ≡ ifShort 2 (now (rec .entry)) (now (result .entry)) (now (result .entry))
-        (withNumbers (runNumbers run) (now (result .entry))))) ⌝ }
+    ensures { λ r. ⌜ (let m =
+        slices (now (states .entry)) (now (codes .entry)) (now (infos .entry)) (now (order .entry)) in
+        let numbers = now (rec .entry) in
+        let old = now (output .entry) in
+        let before = now (result .entry) in
+        let run = toExported numbers m substitute (now (input .entry)) (length old) in
+        (r ≡ ifShort 2 numbers before 70 (endNumber (run .end)))
+        × (now (output .exit) ≡ ifShort 2 numbers before old (putOut run old))
+        × (now (result .exit) ≡ ifShort 2 numbers before before (withNumbers (runNumbers run) before))) ⌝ }
 {
     if rec.len() < RECORD {
         return SHORT;
@@ -182,14 +192,15 @@ pub extern "C" fn oboepond_from_utf8(
     substitute: u32,
     result: &mut [u64],
 ) -> u32
-    ensures { λ r. ⌜ (let m = slices (now (states .entry)) (now (codes .entry)) (now (infos .entry)) (now (order .entry)) in
-        let run = fromExported (now (rec .entry)) m fallback substitute (now (input .entry)) (length (now (output .entry))) in
-        (r ≡ ifShort 2 (now (rec .entry)) (now (result .entry)) 70
-        (haltNumber (run .halt)))
-        × (now (output .exit) ≡ ifShort 2 (now (rec .entry)) (now (result .entry)) (now (output .entry))
-        (putOut run (now (output .entry))))
-        × (now (result .exit) ≡ ifShort 2 (now (rec .entry)) (now (result .entry)) (now (result .entry))
-        (withNumbers (runNumbers run) (now (result .entry))))) ⌝ }
+    ensures { λ r. ⌜ (let m =
+        slices (now (states .entry)) (now (codes .entry)) (now (infos .entry)) (now (order .entry)) in
+        let numbers = now (rec .entry) in
+        let old = now (output .entry) in
+        let before = now (result .entry) in
+        let run = fromExported numbers m fallback substitute (now (input .entry)) (length old) in
+        (r ≡ ifShort 2 numbers before 70 (endNumber (run .end)))
+        × (now (output .exit) ≡ ifShort 2 numbers before old (putOut run old))
+        × (now (result .exit) ≡ ifShort 2 numbers before before (withNumbers (runNumbers run) before))) ⌝ }
 {
     if rec.len() < RECORD {
         return SHORT;
@@ -208,15 +219,16 @@ pub extern "C" fn oboepond_from_utf8(
 
 // 1 for yes, 0 for no.
 fn flag(yes: bool) -> u64
-    ensures { λ r. ⌜ r ≡ pick yes 1 0 ⌝ }
+    ensures { λ r. ⌜ r ≡ (if yes then 1 else 0) ⌝ }
 {
     if yes { 1 } else { 0 }
 }
 
-// Puts what an audit call hands back, and gives its number.
+// Writes the results of an audit call, and answers its number.
 fn put_audited(audited: Audited, result: &mut [u64]) -> u32
     requires { ⌜ 5 ≤ length (now result) ⌝ }
-    ensures { λ r. ⌜ (r ≡ endingNumber (audited .ending)) × (now (result .exit) ≡ withNumbers (auditedNumbers audited) (now (result .entry))) ⌝ }
+    ensures { λ r. ⌜ (r ≡ endingNumber (audited .ending))
+        × (now (result .exit) ≡ withNumbers (auditedNumbers audited) (now (result .entry))) ⌝ }
 {
     let position = audited.position;
     let finished = flag(audited.finished);
@@ -247,14 +259,16 @@ pub extern "C" fn oboepond_audit(
     entries: &mut [u64],
     result: &mut [u64],
 ) -> u32
-    ensures { λ r. ⌜ (let m = slices (now (states .entry)) (now (codes .entry)) (now (infos .entry)) (now (order .entry)) in
-        let a = auditExported (now (rec .entry)) m fallback bits len allowance (length (now (entries .entry))) in
-        (r ≡ ifShort 5 (now (rec .entry)) (now (result .entry)) 70
-        (endingNumber (a .ending)))
-        × (now (entries .exit) ≡ ifShort 5 (now (rec .entry)) (now (result .entry)) (now (entries .entry))
-        (spaceAfter a (now (entries .entry))))
-        × (now (result .exit) ≡ ifShort 5 (now (rec .entry)) (now (result .entry)) (now (result .entry))
-        (withNumbers (auditedNumbers (auditedOf a)) (now (result .entry))))) ⌝ }
+    ensures { λ r. ⌜ (let m =
+        slices (now (states .entry)) (now (codes .entry)) (now (infos .entry)) (now (order .entry)) in
+        let numbers = now (rec .entry) in
+        let old = now (entries .entry) in
+        let before = now (result .entry) in
+        let a = auditExported numbers m fallback bits len allowance (length old) in
+        (r ≡ ifShort 5 numbers before 70 (endingNumber (a .ending)))
+        × (now (entries .exit) ≡ ifShort 5 numbers before old (spaceAfter a old))
+        × (now (result .exit)
+        ≡ ifShort 5 numbers before before (withNumbers (auditedNumbers (auditedOf a)) before))) ⌝ }
 {
     if rec.len() < RECORD {
         return SHORT;

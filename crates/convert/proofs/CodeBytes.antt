@@ -10,7 +10,7 @@ use lib.ListN.{length, getD, take, drop, set, drop-of-length-le}
 use lib.Seq.{length-take-le, getD-take, sets, sets-eq}
 use Rattle.lists.specs.Pick.{pick}
 use Rattle.lists.specs.Place.{fits, placed}
-use Rattle.lists.proofs.Laws.{drop-step}
+use Rattle.lists.proofs.Laws.{drop-∷}
 use Rattle.table.specs.Codes.{packed, unpacked}
 use Rattle.table.proofs.Packing.{packed-none, packed-more, length-unpacked, unpacked-none, unpacked-more}
 
@@ -36,7 +36,7 @@ pub pack-step : (s : List ℕ) (n i : ℕ) → 0 < i → i ≤ n → n ≤ lengt
 pack-step s n i p q h =
     let e : length (take n s) ≡ n = length-take-le n s h in
     let j : i - 1 + 1 ≡ i = omega arith in
-    rw (drop-step (take n s) (i - 1) (omega arith), getD-take n s (i - 1) 0 (omega arith), j) (sym (packed-more (getD s (i - 1) 0) (drop i (take n s))))
+    rw (drop-∷ (take n s) (i - 1) (omega arith), getD-take n s (i - 1) 0 (omega arith), j) (sym (packed-more (getD s (i - 1) 0) (drop i (take n s))))
 
 pub pack-end : (s : List ℕ) (n i : ℕ) → i ≤ 0 → packed (drop i (take n s)) ≡ packed (take n s)
 pack-end s n zero h = refl
@@ -61,15 +61,15 @@ put-none out i k v h = rw (unpacked-none k v h)
 
 module _ (out : List ℕ) (at n v : ℕ) where
   -- no room: nothing is put
-  pub full : length out < at + n → (false ≡ fits out at (unpacked n v)) × (out ≡ pick (fits out at (unpacked n v)) (placed out at (unpacked n v)) out)
-  full h =
+  pub store-full : length out < at + n → (false ≡ fits out at (unpacked n v)) × (out ≡ pick (fits out at (unpacked n v)) (placed out at (unpacked n v)) out)
+  store-full h =
       let e = length-unpacked n v in
       let t = lt-leb (at + length (unpacked n v)) (length out) (omega arith) in
       (sym t, simp t)
 
-  pub done : at + n ≤ length out
+  pub store-done : at + n ≤ length out
       → (true ≡ fits out at (unpacked n v)) × (sets out at (unpacked n v) ≡ pick (fits out at (unpacked n v)) (placed out at (unpacked n v)) out)
-  done h =
+  store-done h =
       let e = length-unpacked n v in
       let t = le-leb (at + length (unpacked n v)) (length out) (omega arith) in
       (sym t, simp t (sets-eq (unpacked n v) out at (omega arith)))

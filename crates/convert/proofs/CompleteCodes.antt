@@ -14,7 +14,7 @@ use Rattle.table.specs.Rules.{Keeps}
 use Rattle.table.specs.declared.states.Cut.the-variants as cut
 use Rattle.table.proofs.Cuts.{cut-code}
 use Rattle.table.proofs.KeptSizes.{kept-short}
-use Rattle.table.proofs.ValidLaws.{code-length}
+use Rattle.table.proofs.FormTested.{code-length}
 use Rattle.convert.specs.Step.{Side, pointFor, encoded, toStep}
 use Rattle.convert.specs.declared.Settings.{Settings}
 use Rattle.convert.proofs.Steps.{to-complete, to-gives}

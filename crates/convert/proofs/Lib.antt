@@ -4,7 +4,7 @@ pub mod Steps
 pub mod Text
 pub mod CompleteCodes
 pub mod ThereAndBack
-pub mod Home
+pub mod RoundTrips
 pub mod CodeBytes
 pub mod LookUps
 mod Choices

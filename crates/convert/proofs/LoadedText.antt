@@ -20,19 +20,21 @@ use Rattle.table.specs.Valid.{valid}
 use Rattle.table.specs.Load.{Given, read, accepted, loadedBy, given, leftIn}
 use Rattle.table.specs.declared.states.Cut.{Cut}
 use Rattle.table.specs.declared.states.Cut.the-variants as cut
-use Rattle.table.specs.declared.states.Halt.the-variants as halt
+use Rattle.table.specs.declared.states.CutStop.the-variants as cutStop
 use Rattle.table.specs.declared.valid.Record.{Record}
-use Rattle.table.proofs.ValidLaws.{SameTable, form-valid}
-use Rattle.table.proofs.InMemory.{held-same, same-reader, same-writer}
+use Rattle.table.proofs.ValidLaws.{form-valid}
+use Rattle.table.specs.Forms.{SameTable}
+use Rattle.table.proofs.InMemory.{SameTable-tableIn, same-reader, same-writer}
 use Rattle.table.proofs.LoadedForm.{LoadedForm, loaded-form}
-use Rattle.convert.specs.Run.{Step, Run, runOf, halted}
+use Rattle.convert.specs.Run.{SequenceStep, Run, runOf, endedWith}
 use Rattle.convert.specs.Step.{Side, utf8, Written, code, subchar1, nothing, pointFor, onCut, toSequence, encoded, toStep, writes, sub1Bytes, substituted, sentFor, onSequence, fromStep, strict}
 use Rattle.convert.specs.Convert.{toRun, fromRun, toTested, fromTested}
-use Rattle.convert.specs.Claims.{ComesHome, ThereAndBack, HomeByCalls}
-use Rattle.convert.specs.declared.Halt.the-variants.{BadTable}
+use Rattle.convert.specs.Claims.{RoundTrips}
+use Rattle.convert.specs.loops.Laws.{ThereAndBack, RoundTripsByCalls}
+use Rattle.convert.specs.declared.RunEnd.the-variants.{BadTable}
 use Rattle.convert.specs.declared.Settings.{Settings}
-use Rattle.convert.proofs.SameLines.{writes-same}
-use Rattle.convert.proofs.Home.{home-runs}
+use Rattle.convert.proofs.SameLines.{writer⇒writes}
+use Rattle.convert.proofs.RoundTrips.{round-trip-runs}
 
 -- two tables with the same rows and, as members, the same lines
 module _ (t u : Table) (s : SameTable u t) (apart : t9 (t .lines) ≡ true) where
@@ -40,8 +42,8 @@ module _ (t u : Table) (s : SameTable u t) (apart : t9 (t .lines) ≡ true) wher
   steps-same = ap stepsOn (s .same-rows)
 
   cut-same : (substitute : Bool) (x : List ℕ) (k : Cut) → onCut u substitute x k ≡ onCut t substitute x k
-  cut-same substitute x (cut.Stopped halt.CutShort) = refl
-  cut-same substitute x (cut.Stopped (halt.Illegal n)) = refl
+  cut-same substitute x (cut.Stopped cutStop.CutShort) = refl
+  cut-same substitute x (cut.Stopped (cutStop.Illegal n)) = refl
   cut-same substitute x (cut.Complete n e) = λ i. pointFor (s .same-subchar1 i) substitute n (same-reader t u s apart (take n x) i)
 
   sequence-same : (settings : Settings) (row : ℕ) (x : List ℕ) → toSequence u settings row x ≡ toSequence t settings row x
@@ -61,7 +63,7 @@ module _ (t u : Table) (s : SameTable u t) (apart : t9 (t .lines) ≡ true) wher
   point-same : (side : Side) (fallback substitute : Bool) (row : ℕ) (q : Sequence) → onSequence side u fallback substitute row q ≡ onSequence side t fallback substitute row q
   point-same side fallback substitute row (sequence.Stopped w) = refl
   point-same side fallback substitute row (sequence.Scalar c n) =
-      ap (sentFor u substitute row n) (writes-same t u fallback c (same-writer t u s apart c)) ∙ sent-same substitute row n (writes t fallback c)
+      ap (sentFor u substitute row n) (writer⇒writes t u fallback c (same-writer t u s apart c)) ∙ sent-same substitute row n (writes t fallback c)
 
   from-same : (side : Side) (settings : Settings) → fromStep side u settings ≡ fromStep side t settings
   unfolding fromStep
@@ -73,20 +75,20 @@ module _ (t : Table) (p : Proper t) (k : Keeps limits t) (rec : Record) (m : Sli
   kept = form-valid limits t p k rec m f
 
   held : SameTable (tableIn rec m) t
-  held = held-same limits t p k rec m f
+  held = SameTable-tableIn limits t p k rec m f
 
   pub to-held : (side : Side) (settings : Settings) (x : List ℕ) (room : ℕ) → toTested side limits rec m settings x room ≡ toRun side t settings x room
   unfolding toTested
   to-held side settings x room =
-      pick-yes (valid limits rec m) (toRun side (tableIn rec m) settings x room) (halted BadTable 0) kept
-      ∙ ap (λ (step : Step). runOf step 0 0 x room) (to-same t (tableIn rec m) held (k .rule9) side settings)
+      pick-yes (valid limits rec m) (toRun side (tableIn rec m) settings x room) (endedWith BadTable 0) kept
+      ∙ ap (λ (step : SequenceStep). runOf step 0 0 x room) (to-same t (tableIn rec m) held (k .rule9) side settings)
 
   pub from-held : (side : Side) (settings : Settings) (x : List ℕ) (room : ℕ)
       → fromTested side limits rec m settings x room ≡ fromRun side t settings x room
   unfolding fromTested
   from-held side settings x room =
-      pick-yes (valid limits rec m) (fromRun side (tableIn rec m) settings x room) (halted BadTable 0) kept
-      ∙ ap (λ (step : Step). runOf step 0 0 x room) (from-same t (tableIn rec m) held (k .rule9) side settings)
+      pick-yes (valid limits rec m) (fromRun side (tableIn rec m) settings x room) (endedWith BadTable 0) kept
+      ∙ ap (λ (step : SequenceStep). runOf step 0 0 x room) (from-same t (tableIn rec m) held (k .rule9) side settings)
 
 -- OF EVERY ACCEPTED TEXT, whatever the lent slices held: over what its load gave and left in them, in the words of the load's own promise
 module _ (text : List ℕ) (old : Slices) (t : Table) where
@@ -111,12 +113,12 @@ module _ (text : List ℕ) (old : Slices) (t : Table) where
     from-loaded side settings x room =
         from-held t (made .proper) (made .keeps) (loadedBy (given limits text old) .table) _ (made .form) side settings x room
 
-    -- a complete code comes home by the text's lines exactly when what the two functions promise there, strict, gives it back
-    pub home-loaded : (fallback : Bool) (c : List ℕ) → AllByte c → isCode (stepsOf t) 0 c ≡ true → (room room′ : ℕ) → 4 ≤ room → 4 ≤ room′
-        → ComesHome t fallback c ↔ HomeByCalls (loadedBy (given limits text old) .table) (leftIn limits (given limits text old) old) fallback c room room′
-    home-loaded fallback c bytes whole room room′ long long′ =
-        subst (λ (to : List ℕ → ℕ → Run). ComesHome t fallback c ↔ ThereAndBack to (fromLoaded (given limits text old) utf8 (strict fallback)) c room room′)
+    -- a complete code round-trips by the text's lines exactly when what the two functions promise there, strict, gives it back
+    pub round-trip-loaded : (fallback : Bool) (c : List ℕ) → AllByte c → isCode (stepsOf t) 0 c ≡ true → (room room′ : ℕ) → 4 ≤ room → 4 ≤ room′
+        → RoundTrips t fallback c ↔ RoundTripsByCalls (loadedBy (given limits text old) .table) (leftIn limits (given limits text old) old) fallback c room room′
+    round-trip-loaded fallback c bytes whole room room′ long long′ =
+        subst (λ (to : List ℕ → ℕ → Run). RoundTrips t fallback c ↔ ThereAndBack to (fromLoaded (given limits text old) utf8 (strict fallback)) c room room′)
         (λ i x n. sym (to-loaded utf8 (strict fallback) x n) i)
-        (subst (λ (from : List ℕ → ℕ → Run). ComesHome t fallback c ↔ ThereAndBack (toRun utf8 t (strict fallback)) from c room room′)
+        (subst (λ (from : List ℕ → ℕ → Run). RoundTrips t fallback c ↔ ThereAndBack (toRun utf8 t (strict fallback)) from c room room′)
         (λ i x n. sym (from-loaded utf8 (strict fallback) x n) i)
-        (home-runs limits t (made .keeps) fallback c bytes whole room room′ long long′))
+        (round-trip-runs limits t (made .keeps) fallback c bytes whole room room′ long long′))

@@ -9,7 +9,7 @@ use lib.Dec.{lit<}
 use lib.ListN.{length, take}
 use lib.Seq.{length-take-le}
 use Rattle.lists.specs.Order.{All}
-use Rattle.lists.proofs.AllParts.{all-take}
+use Rattle.lists.proofs.AllParts.{All-take}
 use Rattle.unicode.specs.declared.utf8.Sequence.the-variants as sequence
 use Rattle.table.specs.Limits.{limits}
 use Rattle.table.specs.States.{stepAt, cutOf}
@@ -29,7 +29,7 @@ use Rattle.table.proofs.Cuts.{cut-within, no-ends-zero-at}
 use Rattle.table.proofs.HeldMemory.{cut-held}
 use Rattle.table.proofs.TableParts.{table-subchar1}
 use Rattle.table.proofs.LookupLaws.{bytes-read, point-writes}
-use Rattle.convert.specs.Step.{pointFor, onCut, toSequence, readAs, pointIn, writtenBy, writes}
+use Rattle.convert.specs.Step.{pointFor, onCut, toSequence, readAs, pointReadAs, writtenBy, writes}
 use Rattle.convert.specs.declared.ReadAs.{ReadAs}
 use Rattle.convert.specs.declared.Settings.{Settings}
 use Rattle.convert.specs.declared.ReadAs.the-variants as read
@@ -66,18 +66,18 @@ module _ (rec : Record) (lent : Slices) (ok : valid limits rec lent ≡ true) wh
       found-reader =
           let w = cut-within (stepAt (lent .states)) (no-ends-zero-at (lent .states)) s 0 n kind e in
           let m : length (take n s) ≡ n = length-take-le n s (w .2) in
-          bytes-read limits rec lent ok (take n s) (all-bytes (take n s) (all-take (λ b. b < 256) n s bytes)) (omega (arith, w .0)) (omega (arith, w .1)) f
+          bytes-read limits rec lent ok (take n s) (all-bytes (take n s) (All-take (λ b. b < 256) n s bytes)) (omega (arith, w .0)) (omega (arith, w .1)) f
           (subst (λ (c : Code). CodeFound rec (lent .codes) (lent .infos) c f) code-is found)
 
       to-found : toSequence t settings 0 s ≡ pointFor (sub1In (rec .subchar1)) (settings .substitute) n (lineFound f)
       to-found = to-cut (cut.Complete n kind) e ∙ (λ i. pointFor (table-subchar1 rec lent i) (settings .substitute) n (found-reader i))
 
-      module _ (r : ReadAs) (choice : pointIn r ≡ readAs (lineFound f)) where
+      module _ (r : ReadAs) (choice : pointReadAs r ≡ readAs (lineFound f)) where
         pub to-point : (c : ℕ) → r ≡ read.Point c → toSequence t settings 0 s ≡ sequence.Scalar c n
-        to-point c q = to-found ∙ point-some (sub1In (rec .subchar1)) (settings .substitute) n c (lineFound f) (sym choice ∙ ap pointIn q)
+        to-point c q = to-found ∙ point-some (sub1In (rec .subchar1)) (settings .substitute) n c (lineFound f) (sym choice ∙ ap pointReadAs q)
 
         pub to-nothing : r ≡ read.Nothing → toSequence t settings 0 s ≡ pointFor (sub1In (rec .subchar1)) (settings .substitute) n none
-        to-nothing q = to-found ∙ point-none (sub1In (rec .subchar1)) (settings .substitute) n (lineFound f) (sym choice ∙ ap pointIn q)
+        to-nothing q = to-found ∙ point-none (sub1In (rec .subchar1)) (settings .substitute) n (lineFound f) (sym choice ∙ ap pointReadAs q)
 
   -- FROM UNICODE
   pub found-writes : (c : ℕ) (f : Found) → PointFound rec (lent .codes) (lent .infos) (lent .order) c f → (fallback : Bool)

@@ -5,6 +5,6 @@ use mathlib.Core.Bool.{Bool}
 use Rattle.table.specs.Meaning.{Table, writer}
 use Rattle.convert.specs.Step.{writtenBy, writes}
 
-pub writes-same : (t u : Table) (fallback : Bool) (c : ℕ) → writer c (u .lines) ≡ writer c (t .lines) → writes u fallback c ≡ writes t fallback c
+pub writer⇒writes : (t u : Table) (fallback : Bool) (c : ℕ) → writer c (u .lines) ≡ writer c (t .lines) → writes u fallback c ≡ writes t fallback c
 unfolding writes
-writes-same t u fallback c e = ap (writtenBy fallback) e
+writer⇒writes t u fallback c e = ap (writtenBy fallback) e

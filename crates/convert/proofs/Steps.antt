@@ -21,18 +21,19 @@ use Rattle.unicode.proofs.RoundTrip.{utf8-encode-decode, reads-within}
 use Rattle.unicode.proofs.MoreInput.{more-input-same}
 use Rattle.table.specs.States.{longest, cutOf}
 use Rattle.table.specs.Meaning.{Line, Table, stepsOf, reader}
-use Rattle.table.specs.Rules.{allOf, t6}
+use Rattle.table.specs.Rules.{t6}
 use Rattle.table.specs.declared.states.Cut.{Cut}
 use Rattle.table.specs.declared.states.Cut.the-variants as cut
-use Rattle.table.specs.declared.states.Halt.the-variants as halt
+use Rattle.table.specs.declared.states.CutStop.the-variants as cutStop
 use Rattle.table.proofs.Cuts.{cut-within, cut-more, no-ends-zero}
-use Rattle.table.proofs.LineLaws.{reader-keeps}
-use Rattle.convert.specs.Run.{give, stop, Sound}
+use Rattle.table.proofs.FormLines.{reader-keeps}
+use Rattle.convert.specs.Run.{give, stop}
 use Rattle.convert.specs.Step.{Side, utf8, substitutePoint, pointFor, onCut, toSequence, encoded, toStep, Written, code, subchar1, nothing, writes, sentFor, onSequence, fromStep}
-use Rattle.convert.specs.Claims.{Lawful}
 use Rattle.convert.specs.declared.Settings.{Settings}
+use Rattle.lists.specs.Tests.{allOf}
+use Rattle.convert.specs.loops.Inner.{Sound, LawfulSide}
 
-pub utf8-lawful : Lawful utf8
+pub utf8-lawful : LawfulSide utf8
 utf8-lawful = record {
   some = λ c. omega (arith, length-encode c);
   put-reads = utf8-encode-decode;
@@ -57,8 +58,8 @@ point-count sub1 false m none c n e = absurd (let z : _≡_ {A = ℕ} 0 1 = cc i
 
 module _ (t : Table) (settings : Settings) (row : ℕ) where
   read-by : (s : List ℕ) (c n : ℕ) (x : Cut) → cutOf (stepsOf t) row s ≡ x → onCut t (settings .substitute) s x ≡ sequence.Scalar c n → ReadFrom t row s n
-  read-by s c n (cut.Stopped halt.CutShort) q e = absurd (let z : _≡_ {A = ℕ} 0 1 = cc in omega arith)
-  read-by s c n (cut.Stopped (halt.Illegal k)) q e = absurd (let z : _≡_ {A = ℕ} 0 1 = cc in omega arith)
+  read-by s c n (cut.Stopped cutStop.CutShort) q e = absurd (let z : _≡_ {A = ℕ} 0 1 = cc in omega arith)
+  read-by s c n (cut.Stopped (cutStop.Illegal k)) q e = absurd (let z : _≡_ {A = ℕ} 0 1 = cc in omega arith)
   read-by s c n (cut.Complete m kind) q e =
       let k = point-count (t .subchar1) (settings .substitute) m (reader (take m s) (t .lines)) c n e in
       let w : cutOf (stepsOf t) row s ≡ cut.Complete n kind = q ∙ ap (λ (j : ℕ). cut.Complete j kind) k in
@@ -97,9 +98,9 @@ module _ (t : Table) (settings : Settings) (row : ℕ) where
       let k : m ≡ n = cc in
       record { point = c; reads = q ∙ ap (sequence.Scalar c) k; spelt = cc; stays = cc }
 
-  pub is-encoded : (u : Side) (s bs : List ℕ) (n next : ℕ) → toStep u t settings row s ≡ give bs n next → Encoded u s bs n next
+  pub toStep⇒Encoded : (u : Side) (s bs : List ℕ) (n next : ℕ) → toStep u t settings row s ≡ give bs n next → Encoded u s bs n next
   unfolding toStep
-  is-encoded u s bs n next e = encoded-by u s bs n next (toSequence t settings row s) refl e
+  toStep⇒Encoded u s bs n next e = encoded-by u s bs n next (toSequence t settings row s) refl e
 
   pub to-gives : (u : Side) (s : List ℕ) (x : Sequence) → toSequence t settings row s ≡ x → toStep u t settings row s ≡ encoded u row x
   unfolding toStep
@@ -116,10 +117,10 @@ module _ (t : Table) (settings : Settings) (row : ℕ) where
 
 pub to-sound : (u : Side) (t : Table) (settings : Settings) → Sound (toStep u t settings)
 to-sound u t settings = record {
-  some = λ row s bs n next e. let k = is-encoded t settings row u s bs n next e in read-from t settings row s (k .point) n (k .reads) .some;
-  within = λ row s bs n next e. let k = is-encoded t settings row u s bs n next e in read-from t settings row s (k .point) n (k .reads) .inside;
+  some = λ row s bs n next e. let k = toStep⇒Encoded t settings row u s bs n next e in read-from t settings row s (k .point) n (k .reads) .some;
+  within = λ row s bs n next e. let k = toStep⇒Encoded t settings row u s bs n next e in read-from t settings row s (k .point) n (k .reads) .inside;
   grows = λ row s rest bs n next e.
-      let k = is-encoded t settings row u s bs n next e in
+      let k = toStep⇒Encoded t settings row u s bs n next e in
       let c = k .point in
       to-gives t settings row u (s ++ rest) (sequence.Scalar c n) (to-more t settings row s rest c n (k .reads))
       ∙ sym (to-gives t settings row u s (sequence.Scalar c n) (k .reads))
@@ -129,7 +130,7 @@ to-sound u t settings = record {
 -- a code gives at most four bytes of UTF-8
 pub four-bytes : (t : Table) (settings : Settings) (row : ℕ) (s bs : List ℕ) (n next : ℕ) → toStep utf8 t settings row s ≡ give bs n next → length bs ≤ 4
 four-bytes t settings row s bs n next e =
-    let k = is-encoded t settings row utf8 s bs n next e in
+    let k = toStep⇒Encoded t settings row utf8 s bs n next e in
     omega (arith, length-encode (k .point), ap length (k .spelt))
 
 -- T6: a line's code point is a scalar value
@@ -192,7 +193,7 @@ module _ (u : Side) (t : Table) (settings : Settings) (row : ℕ) where
   unfolding fromStep
   from-gives s x q = ap (onSequence u t (settings .fallback) (settings .substitute) row) q
 
-pub from-sound : (u : Side) → Lawful u → (t : Table) (settings : Settings) → Sound (fromStep u t settings)
+pub from-sound : (u : Side) → LawfulSide u → (t : Table) (settings : Settings) → Sound (fromStep u t settings)
 from-sound u law t settings = record {
   some = λ row s bs n next e. let k = from-point u t settings row s bs n next e in law .positive s (k .0) n (k .1);
   within = λ row s bs n next e. let k = from-point u t settings row s bs n next e in law .within s (k .0) n (k .1);

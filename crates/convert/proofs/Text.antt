@@ -1,13 +1,12 @@
 -- What is written towards Unicode is text: code points of the input, spelt out, which read back as themselves; and how much room UTF-8 needs.
 use mathlib.Core.Path.{_≡_, refl, sym, ap, subst, _∙_}
-use Prim.Native.Nat.{ℕ, _+_, _-_, _*_, _≤_, _<_}
+use Prim.Native.Nat.{ℕ, _-_, _*_, _≤_, _<_}
 use mathlib.Core.List.{List, [], _∷_, _++_, append-nil, map, flatten}
 use mathlib.Core.Bool.{true}
 use native.Mathlib.Omega.{arith}
 use lib.ListN.{length, drop, length-drop}
 use lib.Seq.{take-append-seam}
-use Rattle.lists.specs.Order.{All as Every}
-use Rattle.lists.proofs.Order.{map-all, all-map}
+use Rattle.lists.proofs.Order.{All-map⁺, All-⇒}
 use Rattle.unicode.specs.Utf8.{Scalar, encodeOf}
 use Rattle.unicode.specs.WellFormed.{wellFormed}
 use Rattle.unicode.specs.declared.utf8.Stop.{Stop}
@@ -15,16 +14,20 @@ use Rattle.unicode.specs.declared.utf8.Sequence.the-variants as sequence
 use Rattle.unicode.proofs.RoundTrip.{utf8-encode-decode}
 use Rattle.unicode.proofs.WellFormed.{decodes-well-formed}
 use Rattle.table.specs.Meaning.{Table}
-use Rattle.table.specs.Rules.{allOf, t6}
-use Rattle.convert.specs.Run.{give, stop, Run, runOf, after, halted}
+use Rattle.table.specs.Rules.{t6}
+use Rattle.lists.specs.Tests.{allOf}
+use Rattle.convert.specs.Run.{give, stop, Run, runOf, after, endedWith}
 use Rattle.convert.specs.Step.{Side, utf8, toStep}
 use Rattle.convert.specs.Convert.{toRun}
-use Rattle.convert.specs.Claims.{Lawful, NotFull, codePoints, pointsIn, spell, onText, textStep, ReadsAs, ReadsAsFirst, WellFormedText}
-use Rattle.convert.specs.declared.Halt.the-variants.{Full, Stopped}
+use Rattle.convert.specs.Claims.{WellFormedText}
+use Rattle.convert.specs.loops.Laws.{NotFull, codePoints, pointsIn, spell, onText, textStep, ReadsAs, ReadsAsFirst}
+use Rattle.convert.specs.declared.RunEnd.the-variants.{OutputFull, Stopped}
 use Rattle.convert.specs.declared.Settings.{Settings}
 use Rattle.convert.proofs.Runs.{run-stop, run-more, every-run}
-use Rattle.convert.proofs.Steps.{is-encoded, to-gives, to-stops, to-scalar, to-sound, four-bytes}
-use Rattle.convert.proofs.Whole.{Given, inputs, outputs, GivesAll, made-of}
+use Rattle.convert.proofs.Steps.{toStep⇒Encoded, to-gives, to-stops, to-scalar, to-sound, four-bytes}
+use Rattle.convert.proofs.Whole.{InputOutput, inputs, outputs, GivesAll, runOf-GivesAll}
+use Rattle.lists.specs.Order.{All as Every}
+use Rattle.convert.specs.loops.Inner.{LawfulSide}
 
 -- what a run has written, beside all code points of its input
 record Spelt (u : Side) (r : Run) (all : List ℕ) : Type 0 where
@@ -52,20 +55,20 @@ module _ (u : Side) (t : Table) (settings : Settings) (ok : allOf t6 (t .lines) 
   abbrev Spells : ℕ → List ℕ → ℕ → Run → Type 0
   Spells row s room r = (places : ℕ) → length s ≤ places → Spelt u r (runOf (toStep codePoints t settings) row 0 s places .bytes)
 
-  spelt-stop : (row : ℕ) (s : List ℕ) (room : ℕ) → 0 < length s → (w : Stop) → toStep u t settings row s ≡ stop w → Spells row s room (halted (Stopped w) row)
+  spelt-stop : (row : ℕ) (s : List ℕ) (room : ℕ) → 0 < length s → (w : Stop) → toStep u t settings row s ≡ stop w → Spells row s room (endedWith (Stopped w) row)
   unfolding spell
   spelt-stop row s room h w e places l =
       let p = run-stop (toStep codePoints t settings) row s places h w (to-stops t settings row u codePoints s w e) in
       record { points = []; rest = []; first = ap (λ (r : Run). r .bytes) p; bytes = refl; scalar = tt; whole = λ f. refl }
 
-  spelt-full : (row : ℕ) (s : List ℕ) (room : ℕ) → Spells row s room (halted Full row)
+  spelt-full : (row : ℕ) (s : List ℕ) (room : ℕ) → Spells row s room (endedWith OutputFull row)
   unfolding spell
   spelt-full row s room places l = record { points = []; rest = _; first = refl; bytes = refl; scalar = tt; whole = λ f. absurd (f refl) }
 
   spelt-more : (row : ℕ) (s : List ℕ) (room : ℕ) → 0 < length s → (bs : List ℕ) (n next : ℕ) → toStep u t settings row s ≡ give bs n next → length bs ≤ room
       → (r : Run) → Spells next (drop n s) (room - length bs) r → Spells row s room (after n bs r)
   spelt-more row s room h bs n next e l r ih places k =
-      let c = is-encoded t settings row u s bs n next e in
+      let c = toStep⇒Encoded t settings row u s bs n next e in
       let f = to-sound u t settings .some row s bs n next e in
       let w = to-sound u t settings .within row s bs n next e in
       let g = to-gives t settings row codePoints s (sequence.Scalar (c .point) n) (c .reads) ∙ ap (give (c .point ∷ []) n) (c .stays) in
@@ -83,7 +86,7 @@ module _ (u : Side) (t : Table) (settings : Settings) (ok : allOf t6 (t .lines) 
       spelt-more
 
 -- spelt code points read back as themselves
-spellings : Side → List ℕ → List Given
+spellings : Side → List ℕ → List InputOutput
 spellings u [] = []
 spellings u (c ∷ cs) = record { input = u .encode c; output = c ∷ [] } ∷ spellings u cs
 
@@ -97,7 +100,7 @@ unfolding spellings
 spell-out u [] = refl
 spell-out u (c ∷ cs) = ap (λ (l : List ℕ). c ∷ l) (spell-out u cs)
 
-module _ (u : Side) (law : Lawful u) where
+module _ (u : Side) (law : LawfulSide u) where
   spell-gives : (cs : List ℕ) → Every Scalar cs → GivesAll (textStep u) (spellings u cs)
   unfolding spellings
   spell-gives [] s = tt
@@ -107,7 +110,7 @@ module _ (u : Side) (law : Lawful u) where
   reads-back cs s =
       let b = spell-out u cs in
       let l : length (outputs (spellings u cs)) ≤ length cs = rw b (omega arith) in
-      rw (spell-in u cs) at (rw b at (made-of (textStep u) (spellings u cs) (length cs) (spell-gives cs s) l))
+      rw (spell-in u cs) at (rw b at (runOf-GivesAll (textStep u) (spellings u cs) (length cs) (spell-gives cs s) l))
 
   module _ (t : Table) (settings : Settings) (s : List ℕ) (room : ℕ) (ok : allOf t6 (t .lines) ≡ true) where
     -- whatever the answer, what is written reads as the first of the input's code points
@@ -143,7 +146,7 @@ utf8-well-formed t settings s room ok =
     record {
       sequences = map encodeOf (w .points);
       joined = w .bytes ∙ spell-flat utf8 (w .points);
-      formed = map-all encodeOf (λ q. wellFormed q ≡ true) (w .points) (all-map encodes-formed (w .points) (w .scalar));
+      formed = All-map⁺ encodeOf (λ q. wellFormed q ≡ true) (w .points) (All-⇒ encodes-formed (w .points) (w .scalar));
     }
 
 -- four places to each byte of the input are enough

@@ -13,80 +13,82 @@ use Rattle.table.specs.Rules.{Keeps}
 use Rattle.convert.specs.Run.{give, Run}
 use Rattle.convert.specs.Step.{Side, pointFor, encoded, toStep, sentFor, fromStep}
 use Rattle.convert.specs.Convert.{toRun, fromRun}
-use Rattle.convert.specs.Claims.{Lawful, allRead, spell, RoundTrip, frameOf, pointsOf}
+use Rattle.convert.specs.Claims.{RoundTripCode, frameOf}
+use Rattle.convert.specs.loops.Laws.{allRead, spell, pointsOf}
+use Rattle.convert.specs.loops.Inner.{LawfulSide}
 use Rattle.convert.specs.declared.Settings.{Settings}
 use Rattle.convert.proofs.Steps.{reader-scalar, from-gives}
-use Rattle.convert.proofs.Whole.{Given, inputs, outputs, GivesAll, made-of}
+use Rattle.convert.proofs.Whole.{InputOutput, inputs, outputs, GivesAll, runOf-GivesAll}
 use Rattle.convert.proofs.CompleteCodes.{some-bytes, code-gives}
 
 module _ (lim : Limits) (t : Table) (keeps : Keeps lim t) (settings : Settings) where
-  scalar : (h : RoundTrip t (settings .fallback)) → Scalar (h .home .line .point)
-  scalar h = reader-scalar t (h .code) (h .home .line) (keeps .rule6) (h .home .reads)
+  scalar : (h : RoundTripCode t (settings .fallback)) → Scalar (h .round-trips .line .point)
+  scalar h = reader-scalar t (h .code) (h .round-trips .line) (keeps .rule6) (h .round-trips .reads)
 
-  module _ (u : Side) (law : Lawful u) where
-    gives-to : (h : RoundTrip t (settings .fallback)) (rest : List ℕ)
-        → toStep u t settings 0 (h .code ++ rest) ≡ give (u .encode (h .home .line .point)) (length (h .code)) 0
+  module _ (u : Side) (law : LawfulSide u) where
+    gives-to : (h : RoundTripCode t (settings .fallback)) (rest : List ℕ)
+        → toStep u t settings 0 (h .code ++ rest) ≡ give (u .encode (h .round-trips .line .point)) (length (h .code)) 0
     gives-to h rest =
         code-gives lim t keeps (h .code) (h .bytes) (h .whole) u settings rest
-        ∙ ap (λ (o : Option Line). encoded u 0 (pointFor (t .subchar1) (settings .substitute) (length (h .code)) o)) (h .home .reads)
+        ∙ ap (λ (o : Option Line). encoded u 0 (pointFor (t .subchar1) (settings .substitute) (length (h .code)) o)) (h .round-trips .reads)
 
-    gives-from : (h : RoundTrip t (settings .fallback)) (rest : List ℕ)
-        → fromStep u t settings 0 (u .encode (h .home .line .point) ++ rest) ≡ give (h .code) (length (u .encode (h .home .line .point))) 0
+    gives-from : (h : RoundTripCode t (settings .fallback)) (rest : List ℕ)
+        → fromStep u t settings 0 (u .encode (h .round-trips .line .point) ++ rest) ≡ give (h .code) (length (u .encode (h .round-trips .line .point))) 0
     gives-from h rest =
-        let c = h .home .line .point in
+        let c = h .round-trips .line .point in
         let n = length (u .encode c) in
         from-gives u t settings 0 (u .encode c ++ rest) (sequence.Scalar c n) (law .put-reads c rest (scalar h))
-        ∙ ap (sentFor t (settings .substitute) 0 n) (h .home .written)
+        ∙ ap (sentFor t (settings .substitute) 0 n) (h .round-trips .written)
 
     -- all of them, both ways
-    toGivens : List (RoundTrip t (settings .fallback)) → List Given
+    toGivens : List (RoundTripCode t (settings .fallback)) → List InputOutput
     toGivens [] = []
-    toGivens (h ∷ l) = record { input = h .code; output = u .encode (h .home .line .point) } ∷ toGivens l
+    toGivens (h ∷ l) = record { input = h .code; output = u .encode (h .round-trips .line .point) } ∷ toGivens l
 
-    fromGivens : List (RoundTrip t (settings .fallback)) → List Given
+    fromGivens : List (RoundTripCode t (settings .fallback)) → List InputOutput
     fromGivens [] = []
-    fromGivens (h ∷ l) = record { input = u .encode (h .home .line .point); output = h .code } ∷ fromGivens l
+    fromGivens (h ∷ l) = record { input = u .encode (h .round-trips .line .point); output = h .code } ∷ fromGivens l
 
-    all-to : (l : List (RoundTrip t (settings .fallback)))
+    all-to : (l : List (RoundTripCode t (settings .fallback)))
         → (inputs (toGivens l) ≡ frameOf l) × (outputs (toGivens l) ≡ spell u (pointsOf l)) × GivesAll (toStep u t settings) (toGivens l)
     unfolding toGivens frameOf spell pointsOf
     all-to [] = (refl, refl, tt)
     all-to (h ∷ l) =
         let r = all-to l in
-        (ap (λ (s : List ℕ). h .code ++ s) (r .0), ap (λ (s : List ℕ). u .encode (h .home .line .point) ++ s) (r .1), (some-bytes lim t keeps (h .code) (h .bytes) (h .whole), gives-to h, r .2))
+        (ap (λ (s : List ℕ). h .code ++ s) (r .0), ap (λ (s : List ℕ). u .encode (h .round-trips .line .point) ++ s) (r .1), (some-bytes lim t keeps (h .code) (h .bytes) (h .whole), gives-to h, r .2))
 
-    all-from : (l : List (RoundTrip t (settings .fallback)))
+    all-from : (l : List (RoundTripCode t (settings .fallback)))
         → (inputs (fromGivens l) ≡ spell u (pointsOf l)) × (outputs (fromGivens l) ≡ frameOf l) × GivesAll (fromStep u t settings) (fromGivens l)
     unfolding fromGivens frameOf spell pointsOf
     all-from [] = (refl, refl, tt)
     all-from (h ∷ l) =
         let r = all-from l in
-        (ap (λ (s : List ℕ). u .encode (h .home .line .point) ++ s) (r .0), ap (λ (s : List ℕ). h .code ++ s) (r .1), (law .some (h .home .line .point), gives-from h, r .2))
+        (ap (λ (s : List ℕ). u .encode (h .round-trips .line .point) ++ s) (r .0), ap (λ (s : List ℕ). h .code ++ s) (r .1), (law .some (h .round-trips .line .point), gives-from h, r .2))
 
     -- the frame is read whole and gives its code points
-    pub there : (l : List (RoundTrip t (settings .fallback))) (room : ℕ) → length (spell u (pointsOf l)) ≤ room
+    pub there : (l : List (RoundTripCode t (settings .fallback))) (room : ℕ) → length (spell u (pointsOf l)) ≤ room
         → toRun u t settings (frameOf l) room ≡ allRead (frameOf l) (spell u (pointsOf l))
     there l room h =
         let r = all-to l in
         let k : length (outputs (toGivens l)) ≤ room = rw (r .1) h in
-        rw (r .0) at (rw (r .1) at (made-of (toStep u t settings) (toGivens l) room (r .2) k))
+        rw (r .0) at (rw (r .1) at (runOf-GivesAll (toStep u t settings) (toGivens l) room (r .2) k))
 
     -- and they give the frame
-    pub back : (l : List (RoundTrip t (settings .fallback))) (room : ℕ) → length (frameOf l) ≤ room
+    pub back : (l : List (RoundTripCode t (settings .fallback))) (room : ℕ) → length (frameOf l) ≤ room
         → fromRun u t settings (spell u (pointsOf l)) room ≡ allRead (spell u (pointsOf l)) (frameOf l)
     back l room h =
         let r = all-from l in
         let k : length (outputs (fromGivens l)) ≤ room = rw (r .1) h in
-        rw (r .0) at (rw (r .1) at (made-of (fromStep u t settings) (fromGivens l) room (r .2) k))
+        rw (r .0) at (rw (r .1) at (runOf-GivesAll (fromStep u t settings) (fromGivens l) room (r .2) k))
 
     -- there and back: the frame itself
-    pub there-and-back : (l : List (RoundTrip t (settings .fallback))) (room space : ℕ) → length (spell u (pointsOf l)) ≤ room → length (frameOf l) ≤ space
+    pub there-and-back : (l : List (RoundTripCode t (settings .fallback))) (room space : ℕ) → length (spell u (pointsOf l)) ≤ room → length (frameOf l) ≤ space
         → fromRun u t settings (toRun u t settings (frameOf l) room .bytes) space .bytes ≡ frameOf l
     there-and-back l room space h k =
         ap (λ (r : Run). fromRun u t settings (r .bytes) space .bytes) (there l room h) ∙ ap (λ (r : Run). r .bytes) (back l space k)
 
     -- two frames that give the same text are the same
-    pub one-way : (l k : List (RoundTrip t (settings .fallback))) → spell u (pointsOf l) ≡ spell u (pointsOf k) → frameOf l ≡ frameOf k
+    pub one-way : (l k : List (RoundTripCode t (settings .fallback))) → spell u (pointsOf l) ≡ spell u (pointsOf k) → frameOf l ≡ frameOf k
     one-way l k e =
         let n = length (frameOf l) + length (frameOf k) in
         ap (λ (r : Run). r .bytes) (sym (back l n (omega arith)) ∙ ap (λ (s : List ℕ). fromRun u t settings s n) e ∙ back k n (omega arith))

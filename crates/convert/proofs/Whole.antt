@@ -6,17 +6,18 @@ use native.Mathlib.Omega.{arith}
 use native.Mathlib.Nat.{add-zero}
 use lib.ListN.{length, drop, length-append, length-drop}
 use lib.Seq.{drop-append-le, drop-append-seam, drop-drop, drop-length}
-use Rattle.convert.specs.Run.{give, Step, Run, runOf, after, halted, Sound}
-use Rattle.convert.specs.Claims.{NotFull, allRead, fed}
-use Rattle.convert.specs.declared.Halt.{Halt}
-use Rattle.convert.specs.declared.Halt.the-variants.{All, Full, Stopped}
+use Rattle.convert.specs.Run.{give, SequenceStep, Run, runOf, after, endedWith}
+use Rattle.convert.specs.loops.Inner.{Sound}
+use Rattle.convert.specs.loops.Laws.{NotFull, allRead, fed}
+use Rattle.convert.specs.declared.RunEnd.{RunEnd}
+use Rattle.convert.specs.declared.RunEnd.the-variants.{AllRead, OutputFull, Stopped}
 use Rattle.convert.proofs.Runs.{run-stop, run-more, every-run, after-after, after-none}
 
 -- after a run on s: the run on what it left of s, with t behind that
-abbrev pub resumed : Step → List ℕ → List ℕ → ℕ → Run → Run
+abbrev pub resumed : SequenceStep → List ℕ → List ℕ → ℕ → Run → Run
 resumed step s t room r = after (r .read) (r .bytes) (runOf step (r .state) 0 (drop (r .read) s ++ t) (room - length (r .bytes)))
 
-module _ (step : Step) (so : Sound step) where
+module _ (step : SequenceStep) (so : Sound step) where
   -- more space gives the same, unless the answer was 50
   pub more-room : (s : List ℕ) (st room m : ℕ) → NotFull (runOf step st 0 s room) → runOf step st 0 s (room + m) ≡ runOf step st 0 s room
   more-room s st room m =
@@ -48,9 +49,9 @@ module _ (step : Step) (so : Sound step) where
       (λ st s room h bs n next e l r ih. let w = so .within st s bs n next e in omega (arith, length-drop n s))
 
   -- an answer of 0 has read all
-  pub all-read : (s : List ℕ) (st room : ℕ) → runOf step st 0 s room .halt ≡ All → runOf step st 0 s room .read ≡ length s
+  pub all-read : (s : List ℕ) (st room : ℕ) → runOf step st 0 s room .end ≡ AllRead → runOf step st 0 s room .read ≡ length s
   all-read =
-      every-run step so (λ st s room r. r .halt ≡ All → r .read ≡ length s)
+      every-run step so (λ st s room r. r .end ≡ AllRead → r .read ≡ length s)
       (λ st room f. refl)
       (λ st s room h w e f. absurd (let z : _≡_ {A = ℕ} 0 1 = cc in omega arith))
       (λ st s room h bs n next e l f. absurd (let z : _≡_ {A = ℕ} 0 1 = cc in omega arith))
@@ -59,7 +60,7 @@ module _ (step : Step) (so : Sound step) where
       let i = ih f in
       omega (arith, length-drop n s))
 
-  resumed-none : (h : Halt) (s t : List ℕ) (st room : ℕ) → runOf step st 0 (s ++ t) room ≡ resumed step s t room (halted h st)
+  resumed-none : (h : RunEnd) (s t : List ℕ) (st room : ℕ) → runOf step st 0 (s ++ t) room ≡ resumed step s t room (endedWith h st)
   resumed-none h s t st room =
       let e : room - 0 ≡ room = omega arith in
       sym (after-none (runOf step st 0 (s ++ t) (room - 0)) ∙ ap (runOf step st 0 (s ++ t)) e)
@@ -68,9 +69,9 @@ module _ (step : Step) (so : Sound step) where
   pub resume : (s t : List ℕ) (st room : ℕ) → runOf step st 0 (s ++ t) room ≡ resumed step s t room (runOf step st 0 s room)
   resume s t st room =
       every-run step so (λ st s room r. runOf step st 0 (s ++ t) room ≡ resumed step s t room r)
-      (λ st room. resumed-none All [] t st room)
+      (λ st room. resumed-none AllRead [] t st room)
       (λ st s room h w e. resumed-none (Stopped w) s t st room)
-      (λ st s room h bs n next e l. resumed-none Full s t st room)
+      (λ st s room h bs n next e l. resumed-none OutputFull s t st room)
       (λ st s room h bs n next e l r ih.
       let p = so .some st s bs n next e in
       let m : room - length (bs ++ r .bytes) ≡ room - length bs - length (r .bytes) = rw (length-append bs (r .bytes)) (omega arith) in
@@ -79,7 +80,7 @@ module _ (step : Step) (so : Sound step) where
       s st room
 
   -- an input that splits at a sequence boundary: the run on s answers 0, and that on s ++ t is it and then the run on t
-  pub join : (s t : List ℕ) (st room : ℕ) → runOf step st 0 s room .halt ≡ All
+  pub join : (s t : List ℕ) (st room : ℕ) → runOf step st 0 s room .end ≡ AllRead
       → let r = runOf step st 0 s room in
       runOf step st 0 (s ++ t) room ≡ after (length s) (r .bytes) (runOf step (r .state) 0 t (room - length (r .bytes)))
   join s t st room f =
@@ -99,33 +100,33 @@ module _ (step : Step) (so : Sound step) where
       ∙ ap (λ (s : List ℕ). runOf step st 0 s room) (append-assoc left p (flatten ps))
 
 -- a sequence, and what it gives
-pub record Given : Type 0 where
+pub record InputOutput : Type 0 where
   pub input : List ℕ
   pub output : List ℕ
 
-abbrev pub inputs : List Given → List ℕ
+abbrev pub inputs : List InputOutput → List ℕ
 inputs [] = []
 inputs (p ∷ l) = p .input ++ inputs l
 
-abbrev pub outputs : List Given → List ℕ
+abbrev pub outputs : List InputOutput → List ℕ
 outputs [] = []
 outputs (p ∷ l) = p .output ++ outputs l
 
 -- each gives its output whatever follows
-abbrev pub GivesAll : Step → List Given → Type 0
+abbrev pub GivesAll : SequenceStep → List InputOutput → Type 0
 GivesAll step [] = Unit {0}
 GivesAll step (p ∷ l) = (0 < length (p .input)) × ((rest : List ℕ) → step 0 (p .input ++ rest) ≡ give (p .output) (length (p .input)) 0) × GivesAll step l
 
 -- an input made of sequences that give is read whole, and gives what they give
-pub made-of : (step : Step) (l : List Given) (room : ℕ) → GivesAll step l → length (outputs l) ≤ room → runOf step 0 0 (inputs l) room ≡ allRead (inputs l) (outputs l)
-made-of step [] room g h = refl
-made-of step (p ∷ l) room g h =
+pub runOf-GivesAll : (step : SequenceStep) (l : List InputOutput) (room : ℕ) → GivesAll step l → length (outputs l) ≤ room → runOf step 0 0 (inputs l) room ≡ allRead (inputs l) (outputs l)
+runOf-GivesAll step [] room g h = refl
+runOf-GivesAll step (p ∷ l) room g h =
     let a = length-append (p .output) (outputs l) in
     let b = length-append (p .input) (inputs l) in
     run-more step 0 (p .input ++ inputs l) room (omega (arith, g .0)) (p .output) (length (p .input)) 0 (g .1 (inputs l)) (g .0) (omega arith)
-    ∙ rw (drop-append-seam (p .input) (inputs l)) (ap (after (length (p .input)) (p .output)) (made-of step l (room - length (p .output)) (g .2) (omega arith)) ∙ rw b)
+    ∙ rw (drop-append-seam (p .input) (inputs l)) (ap (after (length (p .input)) (p .output)) (runOf-GivesAll step l (room - length (p .output)) (g .2) (omega arith)) ∙ rw b)
 
 -- an input that is one sequence
-pub run-one : (step : Step) (s bs : List ℕ) (room : ℕ) → 0 < length s → step 0 s ≡ give bs (length s) 0 → length bs ≤ room → runOf step 0 0 s room ≡ allRead s bs
+pub run-one : (step : SequenceStep) (s bs : List ℕ) (room : ℕ) → 0 < length s → step 0 s ≡ give bs (length s) 0 → length bs ≤ room → runOf step 0 0 s room ≡ allRead s bs
 run-one step s bs room h e l =
     run-more step 0 s room h bs (length s) 0 e h l ∙ rw (drop-length s, add-zero (length s), append-nil bs)

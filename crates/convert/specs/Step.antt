@@ -1,4 +1,7 @@
--- What one sequence gives, on either side, by the lines of a table. The Unicode side is a parameter.
+-- What one sequence gives, on either side, by the lines of a table (document 01, 'The two pipes': To UTF-8, From UTF-8,
+-- Substitute). The Unicode side is a parameter.
+-- Contents: a Unicode side; settings; to Unicode: the code point of a code, or its substitute (`toStep`); from Unicode:
+-- what a code point is written as, or its substitute (`fromStep`).
 use Prim.Native.Nat.{ℕ}
 use mathlib.Core.Path.{_≡_}
 use mathlib.Core.List.{List, [], _∷_}
@@ -6,22 +9,22 @@ use mathlib.Core.Bool.{Bool, true, false}
 use mathlib.Core.Option.{Option, none, some}
 use lib.Dec.{eqb}
 use lib.ListN.{take}
-use Rattle.lists.specs.Pick.{pick}
+use Rattle.lists.specs.Pick.{if_then_else_}
 use Rattle.unicode.specs.Utf8.{decodeOne, encodeOf, Scalar}
 use Rattle.unicode.specs.declared.utf8.Sequence.{Sequence}
 use Rattle.unicode.specs.declared.utf8.Sequence.the-variants as sequence
 use Rattle.unicode.specs.declared.utf8.Stop.{Stop}
 use Rattle.unicode.specs.declared.utf8.Stop.the-variants as stopped
 use Rattle.table.specs.States.{cutOf}
-use Rattle.table.specs.Codes.{unpacked, bytesOf}
+use Rattle.table.specs.Codes.{bytesOf}
 use Rattle.table.specs.Meaning.{Line, Table, stepsOf, isSubstituted, reader, writer}
 use Rattle.table.specs.declared.states.Cut.{Cut}
 use Rattle.table.specs.declared.states.Cut.the-variants as cut
-use Rattle.table.specs.declared.states.Halt.the-variants as halt
+use Rattle.table.specs.declared.states.CutStop.the-variants as cutStop
 use Rattle.table.specs.declared.lookup.Mapping.{Mapping}
 use Rattle.table.specs.declared.lookup.Found.{Found}
 use Rattle.table.specs.declared.lookup.Found.the-variants as found
-use Rattle.convert.specs.Run.{Gives, give, stop, Step}
+use Rattle.convert.specs.Run.{Gives, give, stop, SequenceStep}
 use Rattle.convert.specs.declared.ReadAs.{ReadAs}
 use Rattle.convert.specs.declared.ReadAs.the-variants as read
 use Rattle.convert.specs.declared.WrittenAs.{WrittenAs}
@@ -30,7 +33,7 @@ use Rattle.convert.specs.declared.Sent.{Sent}
 use Rattle.convert.specs.declared.Settings.{Settings}
 use Rattle.convert.specs.declared.Sent.the-variants as sent
 
--- a Unicode encoding form: one code point from the front of a list, a code point as a list, and the length of a code unit
+-- a Unicode encoding form: one code point from the front of a list, a code point as a list, the length of a code unit
 pub record Side : Type 0 where
   pub decode : List ℕ → Sequence
   pub encode : ℕ → List ℕ
@@ -46,16 +49,18 @@ strict fallback = record { fallback = fallback; substitute = false }
 abbrev pub substituting : Bool → Settings
 substituting fallback = record { fallback = fallback; substitute = true }
 
--- TO UNICODE. What stands for an unassigned code of n bytes: U+001A for one byte where subchar1 is given, else U+FFFD
+-- ## To Unicode
+
+-- what stands for an unassigned code of n bytes: U+001A for one byte where subchar1 is given, else U+FFFD
 abbrev pub substitutePoint : Option ℕ → ℕ → ℕ
 substitutePoint none n = 0xfffd
-substitutePoint (some b) n = pick (eqb n 1) 0x1a 0xfffd
+substitutePoint (some b) n = if eqb n 1 then 0x1a else 0xfffd
 
 -- the code point of a complete code of n bytes, by the line that reads it
 abbrev pub pointFor : Option ℕ → Bool → ℕ → Option Line → Sequence
 pointFor sub1 substitute n (some l) = sequence.Scalar (l .point) n
 pointFor sub1 substitute n none =
-    pick substitute (sequence.Scalar (substitutePoint sub1 n) n) (sequence.Stopped stopped.Unassigned)
+    if substitute then sequence.Scalar (substitutePoint sub1 n) n else sequence.Stopped stopped.Unassigned
 
 -- the code point that a code reads as, by the line that reads it
 abbrev pub readAs : Option Line → Option ℕ
@@ -63,13 +68,13 @@ readAs none = none
 readAs (some l) = some (l .point)
 
 -- the choice towards Unicode, as the function hands it back
-abbrev pub pointIn : ReadAs → Option ℕ
-pointIn (read.Point c) = some c
-pointIn read.Nothing = none
+abbrev pub pointReadAs : ReadAs → Option ℕ
+pointReadAs (read.Point c) = some c
+pointReadAs read.Nothing = none
 
 abbrev pub onCut : Table → Bool → List ℕ → Cut → Sequence
-onCut t substitute s (cut.Stopped halt.CutShort) = sequence.Stopped stopped.CutShort
-onCut t substitute s (cut.Stopped (halt.Illegal n)) = sequence.Stopped (stopped.Illegal n)
+onCut t substitute s (cut.Stopped cutStop.CutShort) = sequence.Stopped stopped.CutShort
+onCut t substitute s (cut.Stopped (cutStop.Illegal n)) = sequence.Stopped (stopped.Illegal n)
 onCut t substitute s (cut.Complete n e) = pointFor (t .subchar1) substitute n (reader (take n s) (t .lines))
 
 -- one sequence of the table's bytes, cut by the states from its initial row on
@@ -80,10 +85,12 @@ abbrev pub encoded : Side → ℕ → Sequence → Gives
 encoded u row (sequence.Scalar c n) = give (u .encode c) n row
 encoded u row (sequence.Stopped w) = stop w
 
-unfoldable pub toStep : Side → Table → Settings → Step
+unfoldable pub toStep : Side → Table → Settings → SequenceStep
 toStep u t settings row s = encoded u row (toSequence t settings row s)
 
--- FROM UNICODE. What a code point becomes: its code; subchar1; or nothing that the table has
+-- ## From Unicode
+
+-- what a code point becomes: its code; subchar1; or nothing that the table has
 pub data Written : Type 0 where
   code : List ℕ → Written
   subchar1 : Written
@@ -93,9 +100,10 @@ pub data Written : Type 0 where
 abbrev pub writtenBy : Bool → Option Line → Written
 writtenBy fallback none = nothing
 writtenBy fallback (some l) =
-    pick (eqb (l .indicator) 0) (code (l .code))
-    (pick (eqb (l .indicator) 1) (pick fallback (code (l .code)) nothing)
-    (pick (isSubstituted l) subchar1 nothing))
+    if eqb (l .indicator) 0 then code (l .code) else
+    if eqb (l .indicator) 1 then (if fallback then code (l .code) else nothing) else
+    if isSubstituted l then subchar1 else
+    nothing
 
 -- the choice from Unicode, as the function hands it back
 abbrev pub writtenIn : WrittenAs → Written
@@ -103,7 +111,7 @@ writtenIn (written.Code c) = code (bytesOf c)
 writtenIn written.Subchar1 = subchar1
 writtenIn written.Nothing = nothing
 
--- a code that is written is that of the line that was found
+-- a code that is written is the code of the line that was found
 abbrev pub OwnCode : Found → WrittenAs → Type 0
 OwnCode f (written.Code c) = (m : Mapping) × (f ≡ found.Line m) × (m .code ≡ c)
 OwnCode f written.Subchar1 = Unit {0}
@@ -119,7 +127,7 @@ sub1Bytes (some b) c = b ∷ []
 
 -- a code that stands for a code point of n bytes where substituting is on
 abbrev pub substituted : Bool → List ℕ → ℕ → ℕ → Gives
-substituted substitute c n row = pick substitute (give c n row) (stop stopped.Unassigned)
+substituted substitute c n row = if substitute then give c n row else stop stopped.Unassigned
 
 -- the bytes for a code point read from n bytes; a `|2` line is only in tables with subchar1 (T8)
 abbrev pub sentFor : Table → Bool → ℕ → ℕ → Written → Gives
@@ -138,10 +146,5 @@ onSequence u t fallback substitute row (sequence.Stopped w) = stop (stoppedBy u 
 onSequence u t fallback substitute row (sequence.Scalar c n) = sentFor t substitute row n (writes t fallback c)
 
 -- one sequence of the Unicode side
-unfoldable pub fromStep : Side → Table → Settings → Step
+unfoldable pub fromStep : Side → Table → Settings → SequenceStep
 fromStep u t settings row s = onSequence u t (settings .fallback) (settings .substitute) row (u .decode s)
-
--- what is sent, as bytes: the code's bits hold its bytes, the first on top
-abbrev pub sentOf : Sent → Gives
-sentOf (sent.Code bits len n) = give (unpacked len bits) n 0
-sentOf (sent.Stopped w) = stop w

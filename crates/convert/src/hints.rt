@@ -1,16 +1,13 @@
-// Hints: for a code or a code point the place of a stored line, where a look-up looks first. The line there is tested
-// before it is taken, so any number is right as a hint, and nothing is promised of those that are filled in here: a good
-// one only saves the search.
+// Hints: for a code or a code point, the place where a look-up looks first. It tests the line there before it takes it,
+// so any number will do as a hint, and nothing here is promised: a good hint only saves the search.
+use table::store::RANK;
 ghost use mathlib.Core.Path.{_≡_};
 
-// The slots that hints stand in, each 16 bits: 32 KiB.
+// The slots of the hints, each 16 bits: 32 KiB.
 pub(crate) const SLOTS: usize = 16384;
 
 // The same number in 32 bits.
 const SLOTS_32: u32 = SLOTS as u32;
-
-// A stored code point stands below this, and its rank above.
-const RANK: u32 = 2097152;
 
 // A 16-bit number as a place.
 fn place_of(x: u16) -> usize

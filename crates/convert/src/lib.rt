@@ -16,7 +16,6 @@ ghost use mathlib.Core.Option.{none};
 ghost use Prim.Native.Nat.{ℕ, _+_, _*_, _≤_};
 ghost use lib.ListN.{length, take};
 ghost use lib.Seq.{sets};
-ghost use Rattle.lists.specs.Pick.{pick};
 ghost use Rattle.lists.specs.Place.{fits, placed};
 ghost use Rattle.table.specs.Limits.{limits};
 ghost use Rattle.table.specs.Codes.{packed, unpacked, bytesOf};
@@ -25,72 +24,78 @@ ghost use Rattle.table.specs.Slices.{slices};
 ghost use Rattle.table.specs.Lookup.{lineFound};
 ghost use Rattle.table.specs.Memory.{tableIn, sub1In};
 ghost use Rattle.table.specs.Valid.{valid};
-ghost use Rattle.convert.specs.Run.{doneOf, putOut, haltNumber, runNumber};
-ghost use Rattle.convert.specs.Step.{utf8, pointFor, toSequence, readAs, pointIn, writtenBy, writtenIn, OwnCode, sentFor, stoppedBy, fromStep, sentOf, substituted};
+ghost use Rattle.convert.specs.Run.{convertedOf, putOut, endNumber, runNumber};
+ghost use Rattle.convert.specs.Step.{utf8, pointFor, toSequence, readAs, pointReadAs, writtenBy, writtenIn};
+ghost use Rattle.convert.specs.Step.{OwnCode, sentFor, stoppedBy, fromStep, substituted};
+ghost use Rattle.convert.specs.loops.Inner.{sentOf};
 ghost use Rattle.convert.specs.Convert.{toRun, fromRun, toTested, fromTested};
-
-// What one in the first of a code's four bytes is worth in its 32 bits.
-const TOP: u32 = 16777216;
+use table::states::TOP;
+ghost use Rattle.lists.specs.Pick.{if_then_else_};
 
 // An input of fewer bytes is converted without hints: filling them in would cost more than they save.
 const SHORT: usize = 64;
 
-// How a conversion ends: all is read; the next output does not fit; the table is not valid; a sequence stops it.
-pub enum Halt {
-    All,
-    Full,
+// How a conversion ends, by number.
+pub enum RunEnd {
+    // 0: all input is read.
+    AllRead,
+    // 50: the next output does not fit. Empty the output and call again from the first byte not read.
+    OutputFull,
+    // 60: the record and the memory are no valid table, and nothing is read. Load the table again.
     BadTable,
+    // 51 to 53: the first sequence not read stops the conversion. `Stop` says what to do with it.
     Stopped(Stop),
 }
 
-// How it ended, bytes read, bytes written.
-pub struct Done {
-    pub halt: Halt,
+// How a conversion ended, how many bytes it read, and how many it wrote.
+pub struct Converted {
+    pub end: RunEnd,
     pub read: usize,
     pub written: usize,
 }
 
-// What a code reads as: a code point, or that no line reads it.
+// What a code reads as: a code point, or nothing where no line reads it.
 pub enum ReadAs {
     Point(u32),
     Nothing,
 }
 
-// What a code point is written as: its code, subchar1, or nothing that the table has.
+// What a code point is written as: its code, subchar1, or nothing where no line writes it.
 pub enum WrittenAs {
     Code(Code),
     Subchar1,
     Nothing,
 }
 
-// The settings of a conversion: whether `|1` lines are written, and whether what has no mapping is substituted. Towards
-// Unicode the first is not looked at.
+// The settings of a conversion: whether `|1` lines are written (from Unicode only), and whether a substitution
+// character stands for a sequence without a mapping.
 pub struct Settings {
     pub fallback: bool,
     pub substitute: bool,
 }
 
-// What one sequence of the Unicode side becomes: a code of the table and how many bytes were read, or a stop.
+// The outcome of one UTF-8 sequence: a code of the table (its bits and its length) and the count of bytes read, or a
+// stop.
 pub enum Sent {
     Code(u32, u32, usize),
     Stopped(Stop),
 }
 
 // Document 01's number for the end of a conversion.
-pub fn halt_number(h: Halt) -> u32
-    ensures { λ r. ⌜ r ≡ haltNumber h ⌝ }
+pub fn end_number(h: RunEnd) -> u32
+    ensures { λ r. ⌜ r ≡ endNumber h ⌝ }
 {
     match h {
-        Halt::All => 0,
-        Halt::Full => 50,
-        Halt::BadTable => 60,
-        Halt::Stopped(stop) => unicode::utf8::stop_number(stop),
+        RunEnd::AllRead => 0,
+        RunEnd::OutputFull => 50,
+        RunEnd::BadTable => 60,
+        RunEnd::Stopped(stop) => unicode::utf8::stop_number(stop),
     }
 }
 
 // The choice towards Unicode: what a code reads as, by the line that reads it.
 pub fn read_as(found: Found) -> ReadAs
-    ensures { λ r. ⌜ pointIn r ≡ readAs (lineFound found) ⌝ }
+    ensures { λ r. ⌜ pointReadAs r ≡ readAs (lineFound found) ⌝ }
 {
     match found {
         Found::Line(line) => ReadAs::Point(line.point),
@@ -127,14 +132,14 @@ pub fn write_as(found: Found, fallback: bool) -> WrittenAs
     }
 }
 
-// A byte on top of 32 bits.
+// A byte as the highest of 32 bits.
 fn on_top(x: u8) -> u32
     ensures { λ r. ⌜ (r ≡ x * 16777216) × (r ≤ 4278190080) ⌝ }
 {
     (x as u32) * TOP
 }
 
-// The first n bytes as a number of 32 bits, the first on top.
+// The first n bytes as the bits of a code, the first byte highest.
 fn pack(s: &[u8], n: usize) -> u32
     requires { ⌜ n ≤ length (now s) ⌝ }
     ensures { λ r. ⌜ r ≡ packed (take n (now (s .entry))) ⌝ }
@@ -154,7 +159,7 @@ fn pack(s: &[u8], n: usize) -> u32
     v
 }
 
-// What an unassigned code of n bytes gives, where `sub1` is the record's subchar1.
+// The outcome of an unassigned code of n bytes; `sub1` is the record's subchar1.
 fn unassigned(sub1: u32, n: usize, substitute: bool) -> Sequence
     ensures { λ r. ⌜ r ≡ pointFor (sub1In sub1) substitute n none ⌝ }
 {
@@ -170,7 +175,7 @@ fn unassigned(sub1: u32, n: usize, substitute: bool) -> Sequence
     Sequence::Scalar(0xfffd, n)
 }
 
-// One sequence of the table's bytes. Of memory that does not pass the test behind 60 the contract says nothing.
+// One sequence of the table's bytes. The contract covers valid memory only.
 fn to_step(
     rec: Record,
     states: &[u16],
@@ -180,14 +185,15 @@ fn to_step(
     s: &[u8],
     settings: Settings,
 ) -> Sequence
-    ensures { λ r. ⌜ ((order : List ℕ) → let m = slices (now (states .entry)) (now (codes .entry)) (now (infos .entry)) order in
+    ensures { λ r. ⌜ ((order : List ℕ)
+        → let m = slices (now (states .entry)) (now (codes .entry)) (now (infos .entry)) order in
         valid limits rec m ≡ true
         → r ≡ toSequence (tableIn rec m) settings 0 (now (s .entry))) ⌝ }
 {
     match table::states::cut_one(states, 0, s) {
-        Cut::Stopped(halt) => match halt {
-            table::states::Halt::CutShort => Sequence::Stopped(Stop::CutShort),
-            table::states::Halt::Illegal(n) => Sequence::Stopped(Stop::Illegal(n)),
+        Cut::Stopped(end) => match end {
+            table::states::CutStop::CutShort => Sequence::Stopped(Stop::CutShort),
+            table::states::CutStop::Illegal(n) => Sequence::Stopped(Stop::Illegal(n)),
         },
         Cut::Complete(n, _) => {
             let bits = pack(s, n);
@@ -204,7 +210,7 @@ fn to_step(
     }
 }
 
-// A code that stands for a code point of n bytes where substituting is on.
+// A substitution code for a code point of n bytes, or the stop 53 if substituting is off.
 fn substitute_code(bits: u32, len: u32, n: usize, substitute: bool) -> Sent
     ensures { λ r. ⌜ sentOf r ≡ substituted substitute (unpacked len bits) n 0 ⌝ }
 {
@@ -216,7 +222,8 @@ fn substitute_code(bits: u32, len: u32, n: usize, substitute: bool) -> Sent
 
 // The code for a code point of n bytes, by what it is written as.
 fn code_for(rec: Record, written: WrittenAs, n: usize, settings: Settings) -> Sent
-    ensures { λ r. ⌜ ((t : Table) → t .subchar ≡ bytesOf (rec .subchar) → t .subchar1 ≡ sub1In (rec .subchar1) → rec .subchar1 ≤ 256
+    ensures { λ r. ⌜ ((t : Table)
+        → t .subchar ≡ bytesOf (rec .subchar) → t .subchar1 ≡ sub1In (rec .subchar1) → rec .subchar1 ≤ 256
         → sentOf r ≡ sentFor t (settings .substitute) 0 n (writtenIn written)) ⌝ }
 {
     let sub = rec.subchar;
@@ -244,7 +251,7 @@ fn one_byte(stop: Stop) -> Stop
     }
 }
 
-// One sequence of UTF-8. Of memory that does not pass the test behind 60 the contract says nothing.
+// One sequence of UTF-8. The contract covers valid memory only.
 fn from_step(
     rec: Record,
     codes: &[u32],
@@ -254,7 +261,8 @@ fn from_step(
     s: &[u8],
     settings: Settings,
 ) -> Sent
-    ensures { λ r. ⌜ ((states : List ℕ) → let m = slices states (now (codes .entry)) (now (infos .entry)) (now (order .entry)) in
+    ensures { λ r. ⌜ ((states : List ℕ)
+        → let m = slices states (now (codes .entry)) (now (infos .entry)) (now (order .entry)) in
         valid limits rec m ≡ true
         → sentOf r ≡ fromStep utf8 (tableIn rec m) settings 0 (now (s .entry))) ⌝ }
 {
@@ -268,7 +276,7 @@ fn from_step(
     }
 }
 
-// The `n` bytes on top of a number, put into `out` from `at` on.
+// Writes the n highest bytes of a code's bits into `out` from `at` on.
 fn put_bytes(bits: u32, n: usize, out: &mut [u8], at: usize)
     requires { ⌜ at + n ≤ length (now out) ⌝ }
     ensures { λ _. ⌜ now (out .exit) ≡ sets (now (out .entry)) at (unpacked n bits) ⌝ }
@@ -284,10 +292,12 @@ fn put_bytes(bits: u32, n: usize, out: &mut [u8], at: usize)
     }
 }
 
-// A code's bytes, put into `out` from `at` on, where they fit.
+// Writes a code's bytes into `out` from `at` on if they fit, and answers whether they did.
 fn put_code(bits: u32, len: u32, out: &mut [u8], at: usize) -> bool
-    ensures { λ r. ⌜ (r ≡ fits (now (out .entry)) at (unpacked len bits))
-        × (now (out .exit) ≡ pick (fits (now (out .entry)) at (unpacked len bits)) (placed (now (out .entry)) at (unpacked len bits)) (now (out .entry))) ⌝ }
+    ensures { λ r. ⌜ (let old = now (out .entry) in
+        let bytes = unpacked len bits in
+        (r ≡ fits old at bytes)
+        × (now (out .exit) ≡ (if fits old at bytes then placed old at bytes else old))) ⌝ }
 {
     let n = len as usize;
     if out.len() < n {
@@ -312,6 +322,17 @@ fn put_code(bits: u32, len: u32, out: &mut [u8], at: usize) -> bool
     true
 }
 
+// The answer of a conversion that ended so, after so many bytes.
+fn ended(end: RunEnd, read: usize, written: usize) -> Converted
+    ensures { λ r. ⌜ r ≡ record { end = end; read = read; written = written } ⌝ }
+{
+    Converted {
+        end: end,
+        read: read,
+        written: written,
+    }
+}
+
 // The conversion of a valid table's bytes.
 fn to_run(
     rec: Record,
@@ -323,11 +344,12 @@ fn to_run(
     input: &[u8],
     out: &mut [u8],
     settings: Settings,
-) -> Done
+) -> Converted
     requires { ⌜ valid limits rec (slices (now states) (now codes) (now infos) (now order)) ≡ true ⌝ }
-    ensures { λ r. ⌜ (let m = slices (now (states .entry)) (now (codes .entry)) (now (infos .entry)) (now (order .entry)) in
+    ensures { λ r. ⌜ (let m =
+        slices (now (states .entry)) (now (codes .entry)) (now (infos .entry)) (now (order .entry)) in
         let run = toRun utf8 (tableIn rec m) settings (now (input .entry)) (length (now (out .entry))) in
-        (r ≡ doneOf run)
+        (r ≡ convertedOf run)
         × (now (out .exit) ≡ putOut run (now (out .entry)))) ⌝ }
 {
     let mut at = 0;
@@ -336,46 +358,30 @@ fn to_run(
         let sequence = to_step(rec, states, codes, infos, hints, &input[at..], settings);
         match sequence {
             Sequence::Stopped(stop) => {
-                return Done {
-                    halt: Halt::Stopped(stop),
-                    read: at,
-                    written: w,
-                };
+                return ended(RunEnd::Stopped(stop), at, w);
             }
             Sequence::Scalar(c, n) => {
                 let put = unicode::utf8::encode(c, out, w);
                 match put {
-                    Put::Done(m) => {
+                    Put::Bytes(m) => {
                         at += n;
                         w += m;
                     }
-                    Put::Full => {
-                        return Done {
-                            halt: Halt::Full,
-                            read: at,
-                            written: w,
-                        };
+                    Put::NoRoom => {
+                        return ended(RunEnd::OutputFull, at, w);
                     }
                     // Not with a valid table (T6).
                     Put::NotScalar => {
-                        return Done {
-                            halt: Halt::BadTable,
-                            read: at,
-                            written: w,
-                        };
+                        return ended(RunEnd::BadTable, at, w);
                     }
                 }
             }
         }
     }
-    Done {
-        halt: Halt::All,
-        read: at,
-        written: w,
-    }
+    ended(RunEnd::AllRead, at, w)
 }
 
-// The same, with hints where the input is long enough to repay filling them in.
+// The same, with hints if the input is long enough to repay filling them in.
 fn to_hinted(
     rec: Record,
     states: &[u16],
@@ -385,11 +391,12 @@ fn to_hinted(
     input: &[u8],
     out: &mut [u8],
     settings: Settings,
-) -> Done
+) -> Converted
     requires { ⌜ valid limits rec (slices (now states) (now codes) (now infos) (now order)) ≡ true ⌝ }
-    ensures { λ r. ⌜ (let m = slices (now (states .entry)) (now (codes .entry)) (now (infos .entry)) (now (order .entry)) in
+    ensures { λ r. ⌜ (let m =
+        slices (now (states .entry)) (now (codes .entry)) (now (infos .entry)) (now (order .entry)) in
         let run = toRun utf8 (tableIn rec m) settings (now (input .entry)) (length (now (out .entry))) in
-        (r ≡ doneOf run)
+        (r ≡ convertedOf run)
         × (now (out .exit) ≡ putOut run (now (out .entry)))) ⌝ }
 {
     if input.len() < SHORT {
@@ -433,11 +440,12 @@ fn from_run(
     input: &[u8],
     out: &mut [u8],
     settings: Settings,
-) -> Done
+) -> Converted
     requires { ⌜ valid limits rec (slices (now states) (now codes) (now infos) (now order)) ≡ true ⌝ }
-    ensures { λ r. ⌜ (let m = slices (now (states .entry)) (now (codes .entry)) (now (infos .entry)) (now (order .entry)) in
+    ensures { λ r. ⌜ (let m =
+        slices (now (states .entry)) (now (codes .entry)) (now (infos .entry)) (now (order .entry)) in
         let run = fromRun utf8 (tableIn rec m) settings (now (input .entry)) (length (now (out .entry))) in
-        (r ≡ doneOf run)
+        (r ≡ convertedOf run)
         × (now (out .exit) ≡ putOut run (now (out .entry)))) ⌝ }
 {
     let mut at = 0;
@@ -446,33 +454,21 @@ fn from_run(
         let sent = from_step(rec, codes, infos, order, hints, &input[at..], settings);
         match sent {
             Sent::Stopped(stop) => {
-                return Done {
-                    halt: Halt::Stopped(stop),
-                    read: at,
-                    written: w,
-                };
+                return ended(RunEnd::Stopped(stop), at, w);
             }
             Sent::Code(bits, len, n) => {
                 if !put_code(bits, len, out, w) {
-                    return Done {
-                        halt: Halt::Full,
-                        read: at,
-                        written: w,
-                    };
+                    return ended(RunEnd::OutputFull, at, w);
                 }
                 at += n;
                 w += len as usize;
             }
         }
     }
-    Done {
-        halt: Halt::All,
-        read: at,
-        written: w,
-    }
+    ended(RunEnd::AllRead, at, w)
 }
 
-// The same, with hints where the input is long enough to repay filling them in.
+// The same, with hints if the input is long enough to repay filling them in.
 fn from_hinted(
     rec: Record,
     states: &[u16],
@@ -482,11 +478,12 @@ fn from_hinted(
     input: &[u8],
     out: &mut [u8],
     settings: Settings,
-) -> Done
+) -> Converted
     requires { ⌜ valid limits rec (slices (now states) (now codes) (now infos) (now order)) ≡ true ⌝ }
-    ensures { λ r. ⌜ (let m = slices (now (states .entry)) (now (codes .entry)) (now (infos .entry)) (now (order .entry)) in
+    ensures { λ r. ⌜ (let m =
+        slices (now (states .entry)) (now (codes .entry)) (now (infos .entry)) (now (order .entry)) in
         let run = fromRun utf8 (tableIn rec m) settings (now (input .entry)) (length (now (out .entry))) in
-        (r ≡ doneOf run)
+        (r ≡ convertedOf run)
         × (now (out .exit) ≡ putOut run (now (out .entry)))) ⌝ }
 {
     if input.len() < SHORT {
@@ -529,19 +526,16 @@ pub fn to_utf8(
     input: &[u8],
     out: &mut [u8],
     settings: Settings,
-) -> Done
-    ensures { λ r. ⌜ (let m = slices (now (states .entry)) (now (codes .entry)) (now (infos .entry)) (now (order .entry)) in
+) -> Converted
+    ensures { λ r. ⌜ (let m =
+        slices (now (states .entry)) (now (codes .entry)) (now (infos .entry)) (now (order .entry)) in
         let run = toTested utf8 limits rec m settings (now (input .entry)) (length (now (out .entry))) in
-        (r ≡ doneOf run)
+        (r ≡ convertedOf run)
         × (now (out .exit) ≡ putOut run (now (out .entry)))
-        × (haltNumber (r .halt) ≡ runNumber run)) ⌝ }
+        × (endNumber (r .end) ≡ runNumber run)) ⌝ }
 {
     if !table::valid::memory_valid(rec, states, codes, infos, order) {
-        return Done {
-            halt: Halt::BadTable,
-            read: 0,
-            written: 0,
-        };
+        return ended(RunEnd::BadTable, 0, 0);
     }
     to_hinted(rec, states, codes, infos, order, input, out, settings)
 }
@@ -556,19 +550,16 @@ pub fn from_utf8(
     input: &[u8],
     out: &mut [u8],
     settings: Settings,
-) -> Done
-    ensures { λ r. ⌜ (let m = slices (now (states .entry)) (now (codes .entry)) (now (infos .entry)) (now (order .entry)) in
+) -> Converted
+    ensures { λ r. ⌜ (let m =
+        slices (now (states .entry)) (now (codes .entry)) (now (infos .entry)) (now (order .entry)) in
         let run = fromTested utf8 limits rec m settings (now (input .entry)) (length (now (out .entry))) in
-        (r ≡ doneOf run)
+        (r ≡ convertedOf run)
         × (now (out .exit) ≡ putOut run (now (out .entry)))
-        × (haltNumber (r .halt) ≡ runNumber run)) ⌝ }
+        × (endNumber (r .end) ≡ runNumber run)) ⌝ }
 {
     if !table::valid::memory_valid(rec, states, codes, infos, order) {
-        return Done {
-            halt: Halt::BadTable,
-            read: 0,
-            written: 0,
-        };
+        return ended(RunEnd::BadTable, 0, 0);
     }
     from_hinted(rec, states, codes, infos, order, input, out, settings)
 }

@@ -10,12 +10,12 @@ use lib.ListN.{length, take, drop, length-append}
 use lib.Seq.{take-at, length-take-le}
 use Rattle.lists.specs.Pick.{pick}
 use Rattle.lists.specs.Place.{fits, placed}
-use Rattle.table.specs.Numbers.{numberOf}
+use Rattle.table.specs.Numbers.{refusalNumber}
 use Rattle.table.specs.declared.load.Answer.the-variants.{Accepted, Refused}
 use Rattle.table.specs.declared.load.Loaded.{Loaded}
 use Rattle.table.specs.declared.load.Refusal.{Refusal}
-use Rattle.convert.specs.Run.{Run, doneOf, putOut, haltNumber}
-use Rattle.convert.specs.declared.Done.{Done}
+use Rattle.convert.specs.Run.{Run, convertedOf, putOut, endNumber}
+use Rattle.convert.specs.declared.Converted.{Converted}
 use Rattle.frames.specs.Lines.{okLine, refusedLine, answerLine, parsed, parsedAnswer, parsedInto, putInto, countPut, putCount, roomAfter}
 use Rattle.frames.specs.Report.{tableLine}
 use Rattle.frames.specs.declared.lines.Parsed.the-variants.{Frame, Bad}
@@ -24,19 +24,19 @@ use Rattle.frames.specs.declared.lines.Room.the-variants.{Put, Full}
 use Rattle.frames.proofs.RoundTrip.{parsed-short}
 
 -- a conversion's answer, and the text that it left
-module _ (r : Run) (old text : List ℕ) (d : Done) (e : d ≡ doneOf r) (p : text ≡ putOut r old) where
+module _ (r : Run) (old text : List ℕ) (d : Converted) (e : d ≡ convertedOf r) (p : text ≡ putOut r old) where
   written-is : length (r .bytes) ≡ d .written
-  written-is = sym (ap (λ (x : Done). x .written) e)
+  written-is = sym (ap (λ (x : Converted). x .written) e)
 
   pub written-fits : d .written ≤ length text
   written-fits = rw p (rw (length-append (r .bytes) (drop (length (r .bytes)) old)) (omega (arith, written-is)))
 
-  pub answer-is : (converted : Run) → r ≡ converted → (number : ℕ) → number ≡ haltNumber (d .halt)
-      → answerLine number (d .read) (take (d .written) text) ≡ answerLine (haltNumber (converted .halt)) (converted .read) (converted .bytes)
-  answer-is converted same number n =
+  pub answerLine-≡ : (converted : Run) → r ≡ converted → (number : ℕ) → number ≡ endNumber (d .end)
+      → answerLine number (d .read) (take (d .written) text) ≡ answerLine (endNumber (converted .end)) (converted .read) (converted .bytes)
+  answerLine-≡ converted same number n =
       let bytes : take (d .written) text ≡ r .bytes = rw p (take-at (r .bytes) (drop (length (r .bytes)) old) (d .written) written-is) in
-      let number-is : number ≡ haltNumber (r .halt) = n ∙ ap (λ (x : Done). haltNumber (x .halt)) e in
-      let read : d .read ≡ r .read = ap (λ (x : Done). x .read) e in
+      let number-is : number ≡ endNumber (r .end) = n ∙ ap (λ (x : Converted). endNumber (x .end)) e in
+      let read : d .read ≡ r .read = ap (λ (x : Converted). x .read) e in
       rw (bytes, number-is, read, same)
 
 -- a frame that was read stands at the front of memory that takes 4,096 bytes
@@ -61,17 +61,17 @@ module _ (old : List ℕ) (room : 4096 ≤ length old) where
       let z : _≡_ {A = ℕ} 0 1 = cc in
       absurd (omega arith)
 
-  pub frame-is : (line new : List ℕ) (n : ℕ) → new ≡ parsedInto old (parsed line) → Frame n ≡ parsedAnswer old (parsed line)
+  pub Frame⇒parsed : (line new : List ℕ) (n : ℕ) → new ≡ parsedInto old (parsed line) → Frame n ≡ parsedAnswer old (parsed line)
       → (some (take n new) ≡ parsed line) × (n ≤ length new)
-  frame-is line new n w e = let r = frame-by (parsed line) (parsed-short line) n e in (rw w (sym (r .0)), rw w (r .1))
+  Frame⇒parsed line new n w e = let r = frame-by (parsed line) (parsed-short line) n e in (rw w (sym (r .0)), rw w (r .1))
 
-  pub bad-is : (line : List ℕ) → Bad ≡ parsedAnswer old (parsed line) → parsed line ≡ none
-  bad-is line e = bad-by (parsed line) (parsed-short line) e
+  pub Bad⇒parsed : (line : List ℕ) → Bad ≡ parsedAnswer old (parsed line) → parsed line ≡ none
+  Bad⇒parsed line e = bad-by (parsed line) (parsed-short line) e
 
 -- a text that is put is as good as its equal
-pub put-same : (old : List ℕ) (at : ℕ) {text other : List ℕ} → text ≡ other → (room : Room) (new : List ℕ)
+pub putInto-≡ : (old : List ℕ) (at : ℕ) {text other : List ℕ} → text ≡ other → (room : Room) (new : List ℕ)
     → (room ≡ roomAfter old at text) × (new ≡ putInto old at text) → (room ≡ roomAfter old at other) × (new ≡ putInto old at other)
-put-same old at e room new w = (rw (← e) (w .0), rw (← e) (w .1))
+putInto-≡ old at e room new w = (rw (← e) (w .0), rw (← e) (w .1))
 
 -- what stands at the front of old after a text was put there
 module _ (old text : List ℕ) where
@@ -106,6 +106,6 @@ module _ (l : Loaded) where
   unfolding tableLine
   accepted-line e = rw e
 
-  pub refused-line : (x : Refusal) → l .answer ≡ Refused x → refusedLine (numberOf x) (l .line) ≡ tableLine l
+  pub refused-line : (x : Refusal) → l .answer ≡ Refused x → refusedLine (refusalNumber x) (l .line) ≡ tableLine l
   unfolding tableLine
   refused-line x e = rw e

@@ -6,7 +6,7 @@ use native.Mathlib.Omega.{arith}
 use native.Mathlib.Nat.{pow-suc}
 use lib.ListN.{length, set, length-append}
 use lib.Seq.{sets}
-use Rattle.lists.proofs.Stores.{sets-append, sets-set}
+use Rattle.lists.proofs.Stores.{sets-++, set-sets}
 use Rattle.frames.specs.Lines.{digitsOf, moreDigits, decimalCount, decimalOf}
 
 -- n steps are enough
@@ -68,8 +68,8 @@ last-stored : (out : List ℕ) (at k n : ℕ) → sets out at (digitsOf (suc k) 
 unfolding digitsOf
 last-stored out at k n =
     let l = length-digits k (n / 10) in
-    sets-append out at (digitsOf k (n / 10)) ((48 + n % 10) ∷ [])
-    ∙ rw l (sets-set out at (digitsOf k (n / 10)) (at + k) (48 + n % 10) (omega arith))
+    sets-++ out at (digitsOf k (n / 10)) ((48 + n % 10) ∷ [])
+    ∙ rw l (set-sets out at (digitsOf k (n / 10)) (at + k) (48 + n % 10) (omega arith))
 
 pub digit-stored : (out : List ℕ) (at i n : ℕ) → at < i
     → sets out at (digitsOf (i - at) n) ≡ sets (set out (i - 1) (48 + n % 10)) at (digitsOf (i - 1 - at) (n / 10))

@@ -1,4 +1,4 @@
--- The lines of findings: each has at most 11 bytes, its number tells it, and they are put one behind the other.
+-- The lines of findings: each has at most 11 bytes, its entry's number gives it back, and they are put one after the other.
 use mathlib.Core.Path.{_≡_, refl, sym, ap, _∙_}
 use mathlib.Core.List.{List, [], _∷_, _++_, map}
 use Prim.Native.Nat.{ℕ, _+_, _*_, _/_, _≤_, _<_}
@@ -8,16 +8,17 @@ use lib.ListN.{length, getD, drop, length-append}
 use lib.Seq.{sets, sets-eq, length-sets}
 use Rattle.lists.specs.Order.{All}
 use Rattle.lists.proofs.Cases.{pick-case}
-use Rattle.lists.proofs.Laws.{drop-step, drop-end}
-use Rattle.lists.proofs.Stores.{sets-append}
+use Rattle.lists.proofs.Laws.{drop-∷, drop-past}
+use Rattle.lists.proofs.Stores.{sets-++}
 use Rattle.table.specs.Codes.{bytesOf}
-use Rattle.table.proofs.Packing.{unpack}
+use Rattle.table.proofs.Packing.{unpacked-packed}
 use Rattle.audit.specs.Audit.{Finding, entryNumber}
-use Rattle.audit.specs.declared.Entry.{Entry}
-use Rattle.audit.proofs.EntryNumbers.{entry-told}
+use Rattle.audit.specs.declared.AuditEntry.{AuditEntry}
+use Rattle.audit.proofs.EntryNumbers.{entry-back}
 use Rattle.audit.proofs.Forward.{Found}
-use Rattle.frames.specs.Lines.{hexCount, decimalCount, findingLine, roomAfter, putInto}
-use Rattle.frames.specs.Pages.{findingLines, entryLine, entryLines}
+use Rattle.frames.specs.Lines.{decimalCount, findingLine, roomAfter, putInto}
+use Rattle.frames.specs.loops.Inner.{hexCount, entryLine, entryLines}
+use Rattle.frames.specs.Pages.{findingLines}
 use Rattle.frames.specs.declared.lines.Room.the-variants.{Put, Full}
 use Rattle.frames.proofs.Digits.{count-start, count-none}
 use Rattle.frames.proofs.Writes.{Wrote, wrote-all, length-finding, was-put, was-full}
@@ -38,16 +39,16 @@ unfolding findingLines
 lines-short [] h = omega arith
 lines-short (f ∷ l) h = omega (arith, length-append (findingLine (f .code) (f .cause)) (findingLines l), line-short f (h .0), lines-short l (h .1))
 
--- its number tells it
-line-told : (f : Finding) → Found f → entryLine (entryNumber f) ≡ findingLine (f .code) (f .cause)
-line-told f h =
-    ap (λ (e : Entry). findingLine (bytesOf (e .code)) (e .cause)) (entry-told f (h .bytes) (h .short))
-    ∙ ap (λ (c : List ℕ). findingLine c (f .cause)) (unpack (f .code) (h .bytes) (h .short))
+-- its number gives it back
+line-back : (f : Finding) → Found f → entryLine (entryNumber f) ≡ findingLine (f .code) (f .cause)
+line-back f h =
+    ap (λ (e : AuditEntry). findingLine (bytesOf (e .code)) (e .cause)) (entry-back f (h .bytes) (h .short))
+    ∙ ap (λ (c : List ℕ). findingLine c (f .cause)) (unpacked-packed (f .code) (h .bytes) (h .short))
 
-pub lines-told : (l : List Finding) → All Found l → entryLines (map entryNumber l) ≡ findingLines l
+pub lines-back : (l : List Finding) → All Found l → entryLines (map entryNumber l) ≡ findingLines l
 unfolding entryLines findingLines
-lines-told [] h = refl
-lines-told (f ∷ l) h = (λ i. line-told f (h .0) i ++ lines-told l (h .1) i)
+lines-back [] h = refl
+lines-back (f ∷ l) h = (λ i. line-back f (h .0) i ++ lines-back l (h .1) i)
 
 -- of the lines of es, which have room in old, those before the i-th were put: p is the place behind them, out what they left
 pub record Putting (es old out : List ℕ) (i p : ℕ) : Type 0 where
@@ -66,7 +67,7 @@ module _ {es old out : List ℕ} {i p : ℕ} (w : Putting es old out i p) where
 
     next-line : entryLines (drop i es) ≡ line ++ entryLines (drop (i + 1) es)
     unfolding entryLines
-    next-line = rw (drop-step es i h)
+    next-line = rw (drop-∷ es i h)
 
     next-length : length (entryLines (drop i es)) ≡ length line + length (entryLines (drop (i + 1) es))
     next-length = ap length next-line ∙ length-append line (entryLines (drop (i + 1) es))
@@ -77,7 +78,7 @@ module _ {es old out : List ℕ} {i p : ℕ} (w : Putting es old out i p) where
         let n : new ≡ sets out p line = k ∙ r .2 ∙ sym (sets-eq line out p (r .0)) in
         record {
           bytes =
-              (λ j. sets (n j) (r .1 j) (entryLines (drop (i + 1) es))) ∙ sym (sets-append out p line (entryLines (drop (i + 1) es)))
+              (λ j. sets (n j) (r .1 j) (entryLines (drop (i + 1) es))) ∙ sym (sets-++ out p line (entryLines (drop (i + 1) es)))
               ∙ ap (sets out p) (sym next-line) ∙ w .bytes;
           places = omega (arith, r .1, next-length, w .places);
           same = ap length n ∙ length-sets out p line ∙ w .same;
@@ -90,7 +91,7 @@ module _ {es old out : List ℕ} {i p : ℕ} (w : Putting es old out i p) where
   pub putting-all : length es ≤ i → (p ≡ length (entryLines es)) × (out ≡ putInto old 0 (entryLines es))
   unfolding entryLines
   putting-all h =
-      let e : entryLines (drop i es) ≡ [] = ap entryLines (drop-end es i h) in
+      let e : entryLines (drop i es) ≡ [] = ap entryLines (drop-past es i h) in
       let n : p ≡ length (entryLines es) = omega (arith, ap length e, w .places) in
       let a : Wrote old 0 (entryLines es) p out = record { bytes = ap (sets out p) (sym e) ∙ w .bytes; place = omega arith } in
       (n, wrote-all a (omega (arith, w .room)) .1)

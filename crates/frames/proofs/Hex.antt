@@ -7,22 +7,27 @@ use lib.ListN.{length, getD, drop}
 use lib.Seq.{sets}
 use lib.Dec.{eqb}
 use Rattle.lists.proofs.Cases.{pick-case}
-use Rattle.lists.proofs.Laws.{drop-step, drop-end}
+use Rattle.lists.proofs.Laws.{drop-∷, drop-past}
 use borrow.Author.Tests.{eq-eqb, ne-eqb}
 use Rattle.table.specs.Codes.{unpacked}
 use Rattle.table.proofs.Packing.{unpacked-none, unpacked-more}
-use Rattle.frames.specs.Lines.{hexByte, hexBytes, hexOf, hexCount}
+use Rattle.frames.specs.Lines.{hexByte, hexBytes, hexOf}
+use Rattle.frames.specs.loops.Inner.{hexCount}
+
+-- a capital digit by its number
+pub capital : (d : ℕ) → 10 ≤ d → 65 + (d - 10) ≡ 55 + d
+capital d h = omega arith
 
 pub hex-stored : (out s : List ℕ) (p i : ℕ) → i < length s
     → sets out p (hexBytes (drop i s)) ≡ sets (sets out p (hexByte (getD s i 0))) (p + 2) (hexBytes (drop (i + 1) s))
 unfolding hexBytes
 hex-stored out s p i h =
     let e : p + 2 ≡ suc (suc p) = omega arith in
-    rw (drop-step s i h, e)
+    rw (drop-∷ s i h, e)
 
 pub hex-done : (out s : List ℕ) (p i : ℕ) → length s ≤ i → sets out p (hexBytes (drop i s)) ≡ out
 unfolding hexBytes
-hex-done out s p i h = rw (drop-end s i h)
+hex-done out s p i h = rw (drop-past s i h)
 
 -- the same for a code that is held in a number
 pub code-stored : (out : List ℕ) (p n bits : ℕ) → 0 < n

@@ -5,10 +5,10 @@ pub mod Frame
 pub mod Steps
 pub mod RoundTrip
 pub mod Pieces
-pub mod Held
+pub mod PartialLines
 pub mod Answers
 pub mod Widths
-pub mod Tellings
+pub mod Reports
 pub mod Fronts
 pub mod Turns
 pub mod EnoughCalls
@@ -20,9 +20,4 @@ pub mod EnoughPages
 pub mod OfText
 pub mod Output
 pub mod OutputCases
-pub mod Called
-pub mod FrameCalls
-pub mod PageCalls
-pub mod EndCalls
-pub mod ProgramCalls
 pub mod Cases

@@ -14,7 +14,9 @@ use Rattle.convert.specs.Step.{utf8, substituting}
 use Rattle.convert.specs.Convert.{toRun}
 use Rattle.convert.proofs.LoadedText.{to-loaded}
 use Rattle.frames.specs.Stream.{whole, cutLines}
-use Rattle.frames.specs.Report.{convertIn, lineReport, linesReport, Piece, Ample, inPieces, allText}
+use Rattle.frames.specs.Report.{convertIn, lineReport, linesReport}
+use Rattle.frames.specs.loops.Inputs.{Piece, inPieces, allText}
+use Rattle.frames.specs.loops.Inner.{Ample}
 use Rattle.frames.proofs.WholeInput.{whole-input, program-reads}
 
 module _ (text : List ℕ) (old : Slices) (t : Table) (e : given limits text old ≡ read (accepted t)) where

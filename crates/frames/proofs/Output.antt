@@ -12,13 +12,12 @@ use Rattle.lists.specs.Order.{All}
 use Rattle.lists.proofs.Cases.{pick-case, pick-yes, pick-no}
 use Rattle.table.specs.Limits.{limits}
 use Rattle.table.specs.Meaning.{Table}
-use Rattle.table.specs.Slices.{Slices}
+use Rattle.table.specs.Slices.{Slices, Lent}
 use Rattle.table.specs.Load.{Outcome, accepted, refused, Given, read, loadOf, loadedBy, given, leftIn}
 use Rattle.table.specs.declared.load.Answer.the-variants.{Accepted}
-use Rattle.table.specs.Progress.{Lent}
 use Rattle.table.proofs.GivenText.{given-lent}
 use Rattle.table.proofs.Counts.{record-counts}
-use Rattle.convert.specs.Run.{Run, haltNumber}
+use Rattle.convert.specs.Run.{Run, endNumber}
 use Rattle.convert.specs.Step.{utf8, toStep, substituting}
 use Rattle.convert.specs.Convert.{toRun}
 use Rattle.convert.proofs.Steps.{to-sound}
@@ -26,12 +25,14 @@ use Rattle.convert.proofs.Text.{room-enough}
 use Rattle.convert.proofs.Whole.{more-room}
 use Rattle.audit.specs.Demand.{beginning}
 use Rattle.frames.specs.Lines.{okLine, answerLine, closingLine, isDash, isHex, parsed}
-use Rattle.frames.specs.Stream.{Line, whole, tooLong, linesOf, cut}
-use Rattle.frames.specs.Report.{tableLine, frameLine, lineReport, linesReport, Piece, Ample, allText}
-use Rattle.frames.specs.Pages.{codesLeft, textOf, lastTold, nothingYet}
+use Rattle.frames.specs.Stream.{InputLine, whole, tooLong, inputLines, cut}
+use Rattle.frames.specs.Report.{tableLine, frameLine, lineReport, linesReport}
+use Rattle.frames.specs.loops.Inputs.{Piece, allText, textOf, lastListed}
+use Rattle.frames.specs.loops.Inner.{Ample}
+use Rattle.frames.specs.Pages.{codesLeft, nothingYet}
 use Rattle.frames.specs.Output.{toUtf8, framesOutput, auditOutput, outputFor, outputOf, programOutput}
-use Rattle.frames.specs.Claims.{onlyAccepted, pagesPut, allPut, Through, WholeOutput}
-use Rattle.frames.proofs.Frame.{hex-is}
+use Rattle.frames.specs.loops.Claims.{onlyAccepted, pagesPut, allPut, Through, WholeOutput}
+use Rattle.frames.proofs.Frame.{isHex⁻}
 use Rattle.frames.proofs.RoundTrip.{parsed-short}
 use Rattle.frames.proofs.OfText.{loaded, read-by-text}
 use Rattle.frames.proofs.WholeList.{whole-list}
@@ -43,13 +44,13 @@ parsed-long : (l : List ℕ) → 8192 < length l → parsed l ≡ none
 unfolding parsed isDash
 parsed-long l h =
     pick-no (isDash l) (some []) _ (pick-no _ _ _ (ne-eqb (length l) 1 (λ e. omega arith)))
-    ∙ pick-case (λ (o : Option (List ℕ)). o ≡ none) (isHex l) _ none (λ t. absurd (let m = hex-is l t in omega arith)) (λ t. refl)
+    ∙ pick-case (λ (o : Option (List ℕ)). o ≡ none) (isHex l) _ none (λ t. absurd (let m = isHex⁻ l t in omega arith)) (λ t. refl)
 
 -- so memory for that many holds each line that matters
 report-cut : (convert : List ℕ → Run) (cap : ℕ) (l : List ℕ) → 8192 ≤ cap → lineReport convert (cut cap l) ≡ frameLine convert (parsed l)
 unfolding lineReport
 report-cut convert cap l h =
-    pick-case (λ (x : Line). lineReport convert x ≡ frameLine convert (parsed l)) (leb (length l) cap) (whole l) tooLong
+    pick-case (λ (x : InputLine). lineReport convert x ≡ frameLine convert (parsed l)) (leb (length l) cap) (whole l) tooLong
     (λ t. refl)
     (λ t. sym (ap (frameLine convert) (parsed-long l (let m = leb-false (length l) cap t in omega arith))))
 
@@ -66,7 +67,7 @@ module _ (t : Table) where
 
   frame-same : (o : Option (List ℕ)) → ((s : List ℕ) → o ≡ some s → length s ≤ 4096) → frameLine inProgram o ≡ frameLine (toUtf8 t) o
   frame-same none short = refl
-  frame-same (some s) short = ap (λ (r : Run). answerLine (haltNumber (r .halt)) (r .read) (r .bytes)) (converts-same s (short s refl))
+  frame-same (some s) short = ap (λ (r : Run). answerLine (endNumber (r .end)) (r .read) (r .bytes)) (converts-same s (short s refl))
 
   -- the lines of frames
   frames-same : (cap : ℕ) → 8192 ≤ cap → (ls : List (List ℕ))
@@ -95,11 +96,11 @@ module _ (text : List ℕ) (old : Slices) (line : List ℕ) (pieces : List Piece
 
     frames-are : Ends (given limits text old) → allText (lineReport (loaded text old t e)) line pieces ≡ framesOutput t input
     unfolding framesOutput
-    frames-are x = read-by-text text old t e line pieces (x .read) ∙ frames-same t (length line) (x .long) (linesOf input)
+    frames-are x = read-by-text text old t e line pieces (x .read) ∙ frames-same t (length line) (x .long) (inputLines input)
 
     audit-is : Ends (given limits text old)
         → let pages = pagesPut (loadedBy (given limits text old)) (leftIn limits (given limits text old) old) rooms in
-        let done = lastTold nothingYet pages .reached in
+        let done = lastListed nothingYet pages .reached in
         textOf pages ++ closingLine (done .looked) (done .listed) ≡ auditOutput t
     unfolding auditOutput
     audit-is x = let w = whole-list text old t e rooms (x .listed) in λ i. w .text i ++ closingLine (w .looked i) (w .listed i)

@@ -5,28 +5,28 @@ use mathlib.Core.Option.{none, some}
 use Prim.Native.Nat.{ℕ}
 use Rattle.lists.specs.Ascii.{ascii}
 use Rattle.lists.specs.Order.{firstOf}
-use Rattle.lists.specs.Paging.{notes}
+use Rattle.lists.specs.Paging.{entriesFor}
 use Rattle.unicode.specs.Utf8.{encodeOf}
 use Rattle.table.specs.States.{cutFrom, endKind}
 use Rattle.table.specs.Codes.{scan, codesFrom}
-use Rattle.table.specs.Meaning.{flat, stepsOn, same}
-use Rattle.table.specs.Text.{linesOf as tableLines}
+use Rattle.table.specs.Meaning.{flat, stepsOn}
+use Rattle.lists.specs.Strings.{same, onto}
 use Rattle.table.specs.Load.{Outcome, accepted, outcomeAt, loadGo, loadOf}
 use Rattle.table.specs.TableK.{kText, tableK}
 use Rattle.table.proofs.TextCases.{k-loaded}
 use Rattle.convert.specs.Step.{toSequence, toStep, writes}
-use Rattle.audit.specs.Audit.{causeOf, listing, plainList}
-use Rattle.frames.specs.Lines.{hexBytes, hexOf, digitsOf, moreDigits, decimalCount, decimalOf, fixedLine, twoNumbers, okLine, refusedLine}
-use Rattle.frames.specs.Lines.{answerLine, findingLine, closingLine, digitValue, allDigits, bytesOf, isDash, isHex, parsed}
-use Rattle.frames.specs.Stream.{onto, linesOf}
+use Rattle.audit.specs.Audit.{causeOf, pageableCodes, plainList}
+use Rattle.frames.specs.Lines.{hexBytes, hexOf, digitsOf, moreDigits, decimalCount, decimalOf, fixedLine, twoNumbers, okLine, refusedLine, answerLine, findingLine, closingLine, allDigits, bytesOfHex, isDash, isHex, parsed}
+use Rattle.frames.specs.Stream.{inputLines}
 use Rattle.frames.specs.Pages.{findingLines}
 use Rattle.frames.specs.Output.{framesOutput, auditOutput, outputFor, outputOf, programOutput}
+use Rattle.table.specs.Text.{linesOf as tableLines, digitOf}
 
 -- the output for table K, opened for computing
 unfoldable forK : List ℕ → List ℕ
-unfolding tableK firstOf notes encodeOf stepsOn cutFrom endKind scan codesFrom flat same toSequence toStep writes causeOf listing plainList flatten
+unfolding tableK firstOf entriesFor encodeOf stepsOn cutFrom endKind scan codesFrom flat same toSequence toStep writes causeOf pageableCodes plainList flatten
     hexBytes hexOf digitsOf moreDigits decimalCount decimalOf fixedLine twoNumbers okLine answerLine findingLine closingLine
-    digitValue allDigits bytesOf isDash isHex parsed onto linesOf findingLines framesOutput auditOutput
+    digitOf allDigits bytesOfHex isDash isHex parsed onto inputLines findingLines framesOutput auditOutput
 forK input = outputFor (accepted tableK) input
 
 as-output : (input : List ℕ) → outputOf kText input ≡ forK input

@@ -9,14 +9,16 @@ use lib.Dec.{leb, ltb, eqb}
 use lib.ListN.{length, take, drop, length-append}
 use lib.Seq.{take-append-seam}
 use Rattle.lists.specs.Pick.{pick}
-use Rattle.lists.specs.Order.{lead}
+use Rattle.lists.specs.Order.{prefixLength}
 use Rattle.lists.proofs.Cases.{pick-case}
-use Rattle.lists.proofs.Cursors.{lead-on, lead-stop, lead-end}
-use Rattle.frames.specs.Stream.{onto, linesOf, Line, whole, tooLong, cut, cutLines, extend, Fed, feed, lastLine, feedAll, Step, ended, unended, inLine, stepOf, heldIn, partialOf, keptIn}
-use Rattle.frames.proofs.Steps.{is-end, is-inside}
+use Rattle.lists.proofs.Cursors.{prefix-on, prefix-stop, prefix-end}
+use Rattle.frames.specs.Stream.{inputLines, InputLine, whole, tooLong, cut, cutLines, extend, lastLine, PieceStep, ended, unended, inLine, pieceStep, partialIn, partialOf, keptIn}
+use Rattle.lists.specs.Strings.{onto}
+use Rattle.frames.proofs.Steps.{inLine-no, inLine-yes}
+use Rattle.frames.specs.loops.Inner.{Fed, feed, feedAll}
 
 -- a line that is not too long has at most cap bytes
-abbrev pub Within : ℕ → Line → Type 0
+abbrev pub Within : ℕ → InputLine → Type 0
 Within cap (whole s) = length s ≤ cap
 Within cap tooLong = Unit {0}
 
@@ -27,23 +29,23 @@ cut-within : (cap : ℕ) (s : List ℕ) → Within cap (cut cap s)
 cut-within cap s =
     pick-case (Within cap) (leb (length s) cap) (whole s) tooLong (λ t. leb-true (length s) cap t) (λ t. tt)
 
-pub extend-within : (cap : ℕ) (h : Line) (s : List ℕ) → Within cap (extend cap h s)
+pub extend-within : (cap : ℕ) (h : InputLine) (s : List ℕ) → Within cap (extend cap h s)
 extend-within cap (whole l) s = cut-within cap (l ++ s)
 extend-within cap tooLong s = tt
 
-pub extend-none : (cap : ℕ) (h : Line) → Within cap h → extend cap h [] ≡ h
+pub extend-none : (cap : ℕ) (h : InputLine) → Within cap h → extend cap h [] ≡ h
 extend-none cap (whole l) w = rw (append-nil l) (simp (le-leb (length l) cap w))
 extend-none cap tooLong w = refl
 
 extend-cut : (cap : ℕ) (a b : List ℕ) → extend cap (cut cap a) b ≡ cut cap (a ++ b)
 extend-cut cap a b =
-    pick-case (λ (l : Line). extend cap l b ≡ cut cap (a ++ b)) (leb (length a) cap) (whole a) tooLong (λ t. refl)
+    pick-case (λ (l : InputLine). extend cap l b ≡ cut cap (a ++ b)) (leb (length a) cap) (whole a) tooLong (λ t. refl)
     (λ t.
     let l = leb-false (length a) cap t in
     let n = length-append a b in
     simp (lt-leb (length (a ++ b)) cap (omega arith)))
 
-extend-more : (cap : ℕ) (h : Line) (a b : List ℕ) → extend cap (extend cap h a) b ≡ extend cap h (a ++ b)
+extend-more : (cap : ℕ) (h : InputLine) (a b : List ℕ) → extend cap (extend cap h a) b ≡ extend cap h (a ++ b)
 extend-more cap (whole l) a b = extend-cut cap (l ++ a) b ∙ rw (append-assoc l a b)
 extend-more cap tooLong a b = refl
 
@@ -51,14 +53,14 @@ extend-more cap tooLong a b = refl
 abbrev behind : Fed → Fed → Fed
 behind r q = record { lines = r .lines ++ q .lines; held = q .held }
 
-abbrev ends : Bool → Line → Fed → Fed
+abbrev ends : Bool → InputLine → Fed → Fed
 ends t h r = pick t (record { lines = h ∷ r .lines; held = r .held }) r
 
-ends-behind : (t : Bool) (h : Line) (f r : Fed) (g : Line → Fed) → f ≡ behind r (g (r .held)) → ends t h f ≡ behind (ends t h r) (g (ends t h r .held))
+ends-behind : (t : Bool) (h : InputLine) (f r : Fed) (g : InputLine → Fed) → f ≡ behind r (g (r .held)) → ends t h f ≡ behind (ends t h r) (g (ends t h r .held))
 ends-behind true h f r g e = ap (ends true h) e
 ends-behind false h f r g e = e
 
-feed-append : (cap : ℕ) (h : Line) (a b : List ℕ) → feed cap h (a ++ b) ≡ behind (feed cap h a) (feed cap (feed cap h a .held) b)
+feed-append : (cap : ℕ) (h : InputLine) (a b : List ℕ) → feed cap h (a ++ b) ≡ behind (feed cap h a) (feed cap (feed cap h a .held) b)
 unfolding feed
 feed-append cap h [] b = refl
 feed-append cap h (x ∷ a) b =
@@ -66,10 +68,10 @@ feed-append cap h (x ∷ a) b =
     ends-behind (eqb x 10) h (feed cap k (a ++ b)) (feed cap k a) (λ l. feed cap l b) (feed-append cap k a b)
 
 -- all lines of an input behind what is held
-abbrev all : ℕ → Line → List ℕ → List Line
+abbrev all : ℕ → InputLine → List ℕ → List InputLine
 all cap h s = feed cap h s .lines ++ lastLine (feed cap h s .held)
 
-pieces-all : (cap : ℕ) (h : Line) (pieces : List (List ℕ)) → feedAll cap h pieces ≡ all cap h (flatten pieces)
+pieces-all : (cap : ℕ) (h : InputLine) (pieces : List (List ℕ)) → feedAll cap h pieces ≡ all cap h (flatten pieces)
 unfolding feedAll feed flatten
 pieces-all cap h [] = refl
 pieces-all cap h (s ∷ pieces) =
@@ -105,24 +107,24 @@ last-cut : (cap : ℕ) (a : List ℕ) → lastLine (cut cap a) ≡ map (cut cap)
 unfolding front
 last-cut cap [] = ap lastLine (cut-none cap)
 last-cut cap (b ∷ a) =
-    pick-case (λ (l : Line). lastLine l ≡ l ∷ []) (leb (suc (length a)) cap) (whole (b ∷ a)) tooLong (λ t. refl) (λ t. refl)
+    pick-case (λ (l : InputLine). lastLine l ≡ l ∷ []) (leb (suc (length a)) cap) (whole (b ∷ a)) tooLong (λ t. refl) (λ t. refl)
 
 -- one byte more, by whether it is LF
-all-step : (cap : ℕ) (a s : List ℕ) (x : ℕ) (t : Bool) → ((c : List ℕ) → all cap (cut cap c) s ≡ map (cut cap) (front c (linesOf s)))
+all-step : (cap : ℕ) (a s : List ℕ) (x : ℕ) (t : Bool) → ((c : List ℕ) → all cap (cut cap c) s ≡ map (cut cap) (front c (inputLines s)))
     → ends t (cut cap a) (feed cap (pick t (whole []) (extend cap (cut cap a) (x ∷ []))) s) .lines
     ++ lastLine (ends t (cut cap a) (feed cap (pick t (whole []) (extend cap (cut cap a) (x ∷ []))) s) .held)
-    ≡ map (cut cap) (front a (pick t ([] ∷ linesOf s) (onto x (linesOf s))))
+    ≡ map (cut cap) (front a (pick t ([] ∷ inputLines s) (onto x (inputLines s))))
 all-step cap a s x true ih =
-    ap (λ (l : Line). cut cap a ∷ all cap l s) (sym (cut-none cap))
-    ∙ ap (λ (ls : List Line). cut cap a ∷ ls) (ih [] ∙ ap (map (cut cap)) (front-none (linesOf s)))
-    ∙ sym (ap (map (cut cap)) (front-end a (linesOf s)))
+    ap (λ (l : InputLine). cut cap a ∷ all cap l s) (sym (cut-none cap))
+    ∙ ap (λ (ls : List InputLine). cut cap a ∷ ls) (ih [] ∙ ap (map (cut cap)) (front-none (inputLines s)))
+    ∙ sym (ap (map (cut cap)) (front-end a (inputLines s)))
 all-step cap a s x false ih =
-    ap (λ (l : Line). all cap l s) (extend-cut cap a (x ∷ []))
+    ap (λ (l : InputLine). all cap l s) (extend-cut cap a (x ∷ []))
     ∙ ih (a ++ x ∷ [])
-    ∙ ap (map (cut cap)) (front-onto a x (linesOf s))
+    ∙ ap (map (cut cap)) (front-onto a x (inputLines s))
 
-all-cut : (cap : ℕ) (a s : List ℕ) → all cap (cut cap a) s ≡ map (cut cap) (front a (linesOf s))
-unfolding feed linesOf
+all-cut : (cap : ℕ) (a s : List ℕ) → all cap (cut cap a) s ≡ map (cut cap) (front a (inputLines s))
+unfolding feed inputLines
 all-cut cap a [] = last-cut cap a
 all-cut cap a (x ∷ s) = all-step cap a s x (eqb x 10) (λ c. all-cut cap c s)
 
@@ -131,21 +133,21 @@ pub chunks-join : (cap : ℕ) (pieces : List (List ℕ)) → feedAll cap (whole 
 chunks-join cap pieces =
     let s = flatten pieces in
     pieces-all cap (whole []) pieces
-    ∙ ap (λ (l : Line). all cap l s) (sym (cut-none cap))
+    ∙ ap (λ (l : InputLine). all cap l s) (sym (cut-none cap))
     ∙ all-cut cap [] s
-    ∙ ap (map (cut cap)) (front-none (linesOf s))
+    ∙ ap (map (cut cap)) (front-none (inputLines s))
 
 -- what a step through a piece leaves to do
-abbrev pub afterStep : ℕ → List ℕ → Step → Fed
+abbrev pub afterStep : ℕ → List ℕ → PieceStep → Fed
 afterStep cap s (ended n l) =
     record { lines = l ∷ feed cap (whole []) (drop n s) .lines; held = feed cap (whole []) (drop n s) .held }
 afterStep cap s (unended l) = record { lines = []; held = l }
 
 -- a step by how far the line goes
-abbrev stepBy : ℕ → Line → List ℕ → ℕ → Step
+abbrev stepBy : ℕ → InputLine → List ℕ → ℕ → PieceStep
 stepBy cap h s k = pick (ltb k (length s)) (ended (k + 1) (extend cap h (take k s))) (unended (extend cap h (take k s)))
 
-after-next : (cap : ℕ) (h : Line) (x : ℕ) (s : List ℕ) (k : ℕ)
+after-next : (cap : ℕ) (h : InputLine) (x : ℕ) (s : List ℕ) (k : ℕ)
     → afterStep cap s (stepBy cap (extend cap h (x ∷ [])) s k) ≡ afterStep cap (x ∷ s) (stepBy cap h (x ∷ s) (suc k))
 after-next cap h x s k = go (ltb k (length s)) refl
   where
@@ -158,28 +160,28 @@ after-next cap h x s k = go (ltb k (length s)) refl
         let l = le-ltb (suc k) (suc (length s)) (let q = ltb-false k (length s) p in omega arith) in
         simp (p, l, extend-more cap h (x ∷ []) (take k s))
 
-feed-by : (cap : ℕ) (h : Line) (x : ℕ) (s : List ℕ) (t : Bool) → Within cap h → eqb x 10 ≡ t
-    → ((l : Line) → Within cap l → feed cap l s ≡ afterStep cap s (stepBy cap l s (lead inLine s)))
-    → ends t h (feed cap (pick t (whole []) (extend cap h (x ∷ []))) s) ≡ afterStep cap (x ∷ s) (stepBy cap h (x ∷ s) (lead inLine (x ∷ s)))
+feed-by : (cap : ℕ) (h : InputLine) (x : ℕ) (s : List ℕ) (t : Bool) → Within cap h → eqb x 10 ≡ t
+    → ((l : InputLine) → Within cap l → feed cap l s ≡ afterStep cap s (stepBy cap l s (prefixLength inLine s)))
+    → ends t h (feed cap (pick t (whole []) (extend cap h (x ∷ []))) s) ≡ afterStep cap (x ∷ s) (stepBy cap h (x ∷ s) (prefixLength inLine (x ∷ s)))
 feed-by cap h x s true w p ih =
-    let k = lead-stop inLine (x ∷ s) 0 (omega arith) (is-end x (eqb-true x 10 p)) in
+    let k = prefix-stop inLine (x ∷ s) 0 (omega arith) (inLine-no x (eqb-true x 10 p)) in
     rw k (simp (lt-ltb 0 (suc (length s)) (omega arith), extend-none cap h w))
 feed-by cap h x s false w p ih =
-    let k = lead-on inLine (x ∷ s) 0 (omega arith) (is-inside x (eqb-false x 10 p)) in
+    let k = prefix-on inLine (x ∷ s) 0 (omega arith) (inLine-yes x (eqb-false x 10 p)) in
     ih (extend cap h (x ∷ [])) (extend-within cap h (x ∷ []))
-    ∙ after-next cap h x s (lead inLine s)
+    ∙ after-next cap h x s (prefixLength inLine s)
     ∙ sym (ap (λ (n : ℕ). afterStep cap (x ∷ s) (stepBy cap h (x ∷ s) n)) k)
 
 -- feeding a piece is a step through it, and then the rest
-pub feed-step : (cap : ℕ) (h : Line) (s : List ℕ) → Within cap h → feed cap h s ≡ afterStep cap s (stepOf cap h s)
-unfolding feed stepOf
-feed-step cap h [] w = rw (lead-end inLine [] 0 (omega arith)) (simp (extend-none cap h w))
+pub feed-step : (cap : ℕ) (h : InputLine) (s : List ℕ) → Within cap h → feed cap h s ≡ afterStep cap s (pieceStep cap h s)
+unfolding feed pieceStep
+feed-step cap h [] w = rw (prefix-end inLine [] 0 (omega arith)) (simp (extend-none cap h w))
 feed-step cap h (x ∷ s) w = feed-by cap h x s (eqb x 10) w refl (λ l v. feed-step cap l s v)
 
 -- memory holds what was put into it
-pub kept-held : (memory : List ℕ) (l : Line) → heldIn (keptIn memory l) (partialOf l) ≡ l
-unfolding heldIn keptIn partialOf
-kept-held memory (whole s) =
+pub heldIn-keptIn : (memory : List ℕ) (l : InputLine) → partialIn (keptIn memory l) (partialOf l) ≡ l
+unfolding partialIn keptIn partialOf
+heldIn-keptIn memory (whole s) =
     let n = length-append s (drop (length s) memory) in
     simp (le-leb (length s) (length (s ++ drop (length s) memory)) (omega arith), take-append-seam s (drop (length s) memory))
-kept-held memory tooLong = refl
+heldIn-keptIn memory tooLong = refl

@@ -14,17 +14,18 @@ use Rattle.table.specs.Slices.{Slices}
 use Rattle.table.specs.Memory.{tableIn}
 use Rattle.table.specs.Valid.{valid}
 use Rattle.table.specs.declared.valid.Record.{Record}
-use Rattle.convert.specs.Run.{Run, halted, haltNumber}
+use Rattle.convert.specs.Run.{Run, endedWith, endNumber}
 use Rattle.convert.specs.Step.{utf8, toStep, substituting}
 use Rattle.convert.specs.Convert.{toRun, toTested}
-use Rattle.convert.specs.Claims.{NotFull}
-use Rattle.convert.specs.declared.Halt.{Halt}
-use Rattle.convert.specs.declared.Halt.the-variants.{All, Full, BadTable, Stopped}
+use Rattle.convert.specs.loops.Laws.{NotFull}
+use Rattle.convert.specs.declared.RunEnd.{RunEnd}
+use Rattle.convert.specs.declared.RunEnd.the-variants.{AllRead, OutputFull, BadTable, Stopped}
 use Rattle.convert.proofs.Whole.{fits, reads-within}
 use Rattle.convert.proofs.Steps.{to-sound}
 use Rattle.convert.proofs.Text.{room-enough}
-use Rattle.frames.specs.Lines.{hexCount, badFrame, parsed}
-use Rattle.frames.specs.Stream.{Line, whole, tooLong}
+use Rattle.frames.specs.Lines.{badFrame, parsed}
+use Rattle.frames.specs.loops.Inner.{hexCount}
+use Rattle.frames.specs.Stream.{InputLine, whole, tooLong}
 use Rattle.frames.specs.Report.{convertIn, frameLine, lineReport}
 use Rattle.frames.proofs.Digits.{count-below}
 use Rattle.frames.proofs.RoundTrip.{parsed-short}
@@ -35,7 +36,7 @@ module _ (rec : Record) (m : Slices) where
   convert = convertIn rec m
 
   -- what holds of every conversion, and of one that the test behind 60 refused
-  of-frame : (P : Run → Type 0) (s : List ℕ) → P (toRun utf8 (tableIn rec m) (substituting false) s 16384) → P (halted BadTable 0) → P (convert s)
+  of-frame : (P : Run → Type 0) (s : List ℕ) → P (toRun utf8 (tableIn rec m) (substituting false) s 16384) → P (endedWith BadTable 0) → P (convert s)
   unfolding convertIn toTested
   of-frame P s h k = pick-case P (valid limits rec m) _ _ (λ t. h) (λ t. k)
 
@@ -55,9 +56,9 @@ module _ (rec : Record) (m : Slices) where
       let so = to-sound utf8 (tableIn rec m) (substituting false) in
       of-frame (λ (r : Run). length (r .bytes) ≤ 16384) s (fits (toStep utf8 (tableIn rec m) (substituting false)) so s 0 16384) (omega arith)
 
-number-most : (h : Halt) → haltNumber h < 100
-number-most All = omega arith
-number-most Full = omega arith
+number-most : (h : RunEnd) → endNumber h < 100
+number-most AllRead = omega arith
+number-most OutputFull = omega arith
 number-most BadTable = omega arith
 number-most (Stopped stopped.CutShort) = omega arith
 number-most (Stopped (stopped.Illegal n)) = omega arith
@@ -77,13 +78,13 @@ module _ (rec : Record) (lent : Slices) where
       let r = convert rec lent s in
       let l = short s refl in
       let m = read-most rec lent s in
-      let a = count-below 1 (haltNumber (r .halt)) (omega (arith, number-most (r .halt))) in
+      let a = count-below 1 (endNumber (r .end)) (omega (arith, number-most (r .end))) in
       let b = count-below 3 (r .read) (omega arith) in
       let d = digits-most (length (r .bytes)) (bytes-most rec lent s) in
-      omega (arith, length-answer (haltNumber (r .halt)) (r .read) (r .bytes))
+      omega (arith, length-answer (endNumber (r .end)) (r .read) (r .bytes))
 
   -- the widest line
-  pub line-fits : (l : Line) → length (lineReport (convertIn rec lent) l) ≤ 32777
+  pub line-fits : (l : InputLine) → length (lineReport (convertIn rec lent) l) ≤ 32777
   unfolding lineReport
   line-fits (whole l) = frame-fits (parsed l) (parsed-short l)
   line-fits tooLong = bad-fits (convert rec lent)

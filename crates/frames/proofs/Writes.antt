@@ -7,8 +7,9 @@ use mathlib.Core.Bool.{Bool, true, false}
 use borrow.Author.Tests.{le-leb, lt-leb, leb-true, leb-false}
 use lib.ListN.{length, length-append}
 use lib.Seq.{sets, sets-eq}
-use Rattle.lists.proofs.Stores.{sets-append}
-use Rattle.frames.specs.Lines.{digitsOf, decimalCount, decimalOf, fixedLine, twoNumbers, okLine, answerLine, findingLine, hexCount, roomAfter, putInto}
+use Rattle.lists.proofs.Stores.{sets-++}
+use Rattle.frames.specs.Lines.{digitsOf, decimalCount, decimalOf, fixedLine, twoNumbers, okLine, answerLine, findingLine, roomAfter, putInto}
+use Rattle.frames.specs.loops.Inner.{hexCount}
 use Rattle.lists.specs.Pick.{pick}
 use Rattle.lists.specs.Place.{fits, placed}
 use Rattle.frames.proofs.Digits.{length-decimal}
@@ -25,7 +26,7 @@ module _ {old : List ℕ} {at : ℕ} {text : List ℕ} {p : ℕ} {out : List ℕ
   pub wrote-more : (new : List ℕ) (q : ℕ) (next : List ℕ) → next ≡ sets out p new → q ≡ p + length new → Wrote old at (text ++ new) q next
   wrote-more new q next e h =
       record {
-        bytes = e ∙ rw (w .bytes, w .place) (sym (sets-append old at text new));
+        bytes = e ∙ rw (w .bytes, w .place) (sym (sets-++ old at text new));
         place = rw (length-append text new) (omega (arith, w .place));
       }
 

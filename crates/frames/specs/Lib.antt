@@ -1,6 +1,6 @@
 pub mod Lines
+pub mod Output
 pub mod Stream
 pub mod Report
 pub mod Pages
-pub mod Output
-pub mod Claims
+pub mod loops

@@ -1,102 +1,84 @@
--- The lines of an input, and how they are found where the input comes in pieces.
+-- The lines of standard input (document 01: one frame a line), and how they are found where the input comes in pieces.
+-- Cases: proofs/Cases.antt
 use Prim.Native.Nat.{ℕ, _+_}
 use mathlib.Core.Bool.{Bool, true, false, not}
 use mathlib.Core.List.{List, [], _∷_, _++_, map}
 use lib.Dec.{ltb, leb, eqb}
 use lib.ListN.{length, take, drop}
-use Rattle.lists.specs.Pick.{pick}
-use Rattle.lists.specs.Order.{lead}
+use Rattle.lists.specs.Ascii.{byte}
+use Rattle.lists.specs.Pick.{if_then_else_}
+use Rattle.lists.specs.Order.{prefixLength}
+use Rattle.lists.specs.Strings.{onto}
 use Rattle.frames.specs.declared.lines.Partial.{Partial}
 use Rattle.frames.specs.declared.lines.Taken.{Taken}
 use Rattle.frames.specs.declared.lines.Taken.the-variants as taken
 
--- a byte in front of the first line
-unfoldable pub onto : ℕ → List (List ℕ) → List (List ℕ)
-onto b [] = (b ∷ []) ∷ []
-onto b (l ∷ ls) = (b ∷ l) ∷ ls
-
 -- an input split at each LF; bytes behind the last LF are a line too
-unfoldable pub linesOf : List ℕ → List (List ℕ)
-linesOf [] = []
-linesOf (b ∷ s) = let r = linesOf s in pick (eqb b 10) ([] ∷ r) (onto b r)
+unfoldable pub inputLines : List ℕ → List (List ℕ)
+inputLines [] = []
+inputLines (b ∷ s) = let r = inputLines s in if eqb b (byte "\n") then [] ∷ r else onto b r
 
--- a line's bytes, or that it has more than there is room for
-pub data Line : Type 0 where
-  whole : List ℕ → Line
-  tooLong : Line
+-- a line of the input: its bytes, or that it has more than there is room for
+pub data InputLine : Type 0 where
+  whole : List ℕ → InputLine
+  tooLong : InputLine
 
 -- a line, if it has at most cap bytes
-abbrev pub cut : ℕ → List ℕ → Line
-cut cap s = pick (leb (length s) cap) (whole s) tooLong
+abbrev pub cut : ℕ → List ℕ → InputLine
+cut cap s = if leb (length s) cap then whole s else tooLong
 
 -- the lines of an input, each with at most cap bytes or too long
-abbrev pub cutLines : ℕ → List ℕ → List Line
-cutLines cap s = map (cut cap) (linesOf s)
+abbrev pub cutLines : ℕ → List ℕ → List InputLine
+cutLines cap s = map (cut cap) (inputLines s)
 
--- more bytes behind what is held of a line
-abbrev pub extend : ℕ → Line → List ℕ → Line
+-- a partial line with more bytes at its end
+abbrev pub extend : ℕ → InputLine → List ℕ → InputLine
 extend cap (whole l) s = cut cap (l ++ s)
 extend cap tooLong s = tooLong
 
--- the lines that came to their end, and what is held of the next
-pub record Fed : Type 0 where
-  pub lines : List Line
-  pub held : Line
-
--- what a piece of input gives behind what is held
-unfoldable pub feed : ℕ → Line → List ℕ → Fed
-feed cap h [] = record { lines = []; held = h }
-feed cap h (b ∷ s) =
-    let r = feed cap (pick (eqb b 10) (whole []) (extend cap h (b ∷ []))) s in
-    pick (eqb b 10) (record { lines = h ∷ r .lines; held = r .held }) r
-
 -- what is held at the input's end is a line, if it has bytes
-abbrev pub lastLine : Line → List Line
+abbrev pub lastLine : InputLine → List InputLine
 lastLine (whole []) = []
 lastLine (whole (b ∷ s)) = whole (b ∷ s) ∷ []
 lastLine tooLong = tooLong ∷ []
 
--- the lines of an input that comes in pieces
-unfoldable pub feedAll : ℕ → Line → List (List ℕ) → List Line
-feedAll cap h [] = lastLine h
-feedAll cap h (s ∷ pieces) = feed cap h s .lines ++ feedAll cap (feed cap h s .held) pieces
-
 -- one step through a piece: a line came to its end after some bytes, LF included, or the piece did
-pub data Step : Type 0 where
-  ended : ℕ → Line → Step
-  unended : Line → Step
+pub data PieceStep : Type 0 where
+  ended : ℕ → InputLine → PieceStep
+  unended : InputLine → PieceStep
 
 -- any byte but LF
 abbrev pub inLine : ℕ → Bool
-inLine b = not (eqb b 10)
+inLine b = not (eqb b (byte "\n"))
 
--- the step from a piece's start: the bytes before the first LF go behind what is held
-unfoldable pub stepOf : ℕ → Line → List ℕ → Step
-stepOf cap h s =
-    let k = lead inLine s in
+-- the step from a piece's start: the bytes before the first LF continue the partial line
+unfoldable pub pieceStep : ℕ → InputLine → List ℕ → PieceStep
+pieceStep cap h s =
+    let k = prefixLength inLine s in
     let l = extend cap h (take k s) in
-    pick (ltb k (length s)) (ended (k + 1) l) (unended l)
+    if ltb k (length s) then ended (k + 1) l else unended l
 
--- what memory holds of a line; a count past the memory stands for a line that is too long
-unfoldable pub heldIn : List ℕ → Partial → Line
-heldIn memory p = pick (p .long) tooLong (pick (leb (p .len) (length memory)) (whole (take (p .len) memory)) tooLong)
+-- the partial line that memory holds; a count past the memory stands for a line that is too long
+unfoldable pub partialIn : List ℕ → Partial → InputLine
+partialIn memory p =
+    if p .long then tooLong else if leb (p .len) (length memory) then whole (take (p .len) memory) else tooLong
 
--- how a line is held
-unfoldable pub partialOf : Line → Partial
+-- the count by which memory holds a partial line
+unfoldable pub partialOf : InputLine → Partial
 partialOf (whole s) = record { len = length s; long = false }
 partialOf tooLong = record { len = 0; long = true }
 
 -- memory with a line at its front; one that is too long leaves it as it was
-unfoldable pub keptIn : List ℕ → Line → List ℕ
+unfoldable pub keptIn : List ℕ → InputLine → List ℕ
 keptIn memory (whole s) = s ++ drop (length s) memory
 keptIn memory tooLong = memory
 
 -- the answer for a step that began at a place of a piece
-unfoldable pub takenAnswer : ℕ → Step → Taken
+unfoldable pub takenAnswer : ℕ → PieceStep → Taken
 takenAnswer at (ended n l) = taken.Line (at + n) (partialOf l)
 takenAnswer at (unended l) = taken.More (partialOf l)
 
 -- memory after a step
-unfoldable pub takenInto : List ℕ → Step → List ℕ
+unfoldable pub takenInto : List ℕ → PieceStep → List ℕ
 takenInto memory (ended n l) = keptIn memory l
 takenInto memory (unended l) = keptIn memory l

@@ -5,36 +5,58 @@ ghost use mathlib.Core.List.{_++_};
 ghost use Prim.Native.Nat.{_+_, _-_, _*_, _%_, _^_, _≤_, _<_};
 ghost use lib.ListN.{length, drop};
 ghost use lib.Seq.{sets};
-ghost use Rattle.lists.specs.Order.{lead};
+ghost use Rattle.lists.specs.Order.{prefixLength};
 ghost use Rattle.table.specs.Codes.{unpacked};
-ghost use Rattle.frames.specs.Lines.{hexDigit, hexByte, hexOf, hexCount, digitsOf, decimalCount, fixedLine, twoNumbers, okLine, refusedLine, answerLine, findingLine, closingLine, roomAfter, putInto, countPut, digitValue, allDigits, bytesOf, isDash, isHex, parsed, parsedAnswer, parsedInto};
-ghost use Rattle.frames.specs.Stream.{inLine, extend, stepOf, heldIn, partialOf, keptIn, takenAnswer, takenInto};
+ghost use Rattle.frames.specs.Lines.{hexDigit, hexByte, hexOf, digitsOf, decimalCount, fixedLine, twoNumbers};
+ghost use Rattle.frames.specs.Lines.{okLine, refusedLine, answerLine, findingLine, closingLine, countPut};
+ghost use Rattle.frames.specs.Lines.{allDigits, bytesOfHex, isDash, isHex, parsed, parsedAnswer, parsedInto};
+ghost use Rattle.frames.specs.Lines.{Puts};
+ghost use Rattle.frames.specs.loops.Inner.{hexCount};
+ghost use Rattle.frames.specs.Stream.{inLine, extend, pieceStep, partialIn, partialOf, keptIn, takenAnswer};
+ghost use Rattle.frames.specs.Stream.{takenInto};
+use table::states::TOP;
+use table::text::digit;
 
-// What putting a text gives: the place behind it, or that it does not fit.
+// The outcome of putting a text.
 pub enum Room {
+    // The text is written. The next one goes to this place after it.
     Put(usize),
+    // The text does not fit, and `out` stays as it was. Send what `out` holds and put the text again at the front.
     Full,
 }
 
-// What a frame's line gives: how many bytes the frame has, or that the line is malformed.
+// The outcome of reading a frame's line.
 pub enum Parsed {
+    // So many bytes of the frame are at the front of `out`. Convert them.
     Frame(usize),
+    // The line is malformed, or the frame does not fit. Report BAD FRAME.
     Bad,
 }
 
-// What is held of a line: how many of its bytes, or that it has more than there is room for.
+// The line so far: how many of its bytes are held, or that it has more bytes than there is room for.
 pub struct Partial {
     pub len: usize,
     pub long: bool,
 }
 
-// One step through a piece of input: a line came to its end, with the place behind its LF; or the piece did.
+// A line that has no bytes yet.
+pub(crate) const EMPTY: Partial = Partial {
+    len: 0,
+    long: false,
+};
+
+// A line that has more bytes than there is room for.
+pub(crate) const TOO_LONG: Partial = Partial { len: 0, long: true };
+
+// One step through a piece of input.
 pub enum Taken {
+    // The line ends. Report it, and go on from this place after its LF.
     Line(usize, Partial),
+    // The piece ends inside the line. Take the next piece.
     More(Partial),
 }
 
-// How many bytes were put by what began at the front: none where it did not fit.
+// How many bytes were put at the front: none if the text did not fit.
 pub fn count_put(room: Room) -> usize
     ensures { λ r. ⌜ r ≡ countPut room ⌝ }
 {
@@ -54,10 +76,11 @@ fn room_left(len: usize, at: usize) -> usize
     len - at
 }
 
-// Writes a text from `at` on, and answers the place behind it.
+// Writes a text from `at` on, and answers the place after it.
 fn write_bytes(text: &[u8], out: &mut [u8], at: usize) -> usize
     requires { ⌜ at + length (now text) ≤ length (now out) ⌝ }
-    ensures { λ r. ⌜ (r ≡ at + length (now (text .entry))) × (now (out .exit) ≡ sets (now (out .entry)) at (now (text .entry))) ⌝ }
+    ensures { λ r. ⌜ (r ≡ at + length (now (text .entry)))
+        × (now (out .exit) ≡ sets (now (out .entry)) at (now (text .entry))) ⌝ }
 {
     let mut i = 0;
     while i < text.len() {
@@ -67,9 +90,9 @@ fn write_bytes(text: &[u8], out: &mut [u8], at: usize) -> usize
     at + i
 }
 
-// Puts a text into `out` from `at` on where it fits; else `out` is as it was.
+// Puts a text into `out` from `at` on if it fits; otherwise `out` stays as it was.
 pub fn put_bytes(text: &[u8], out: &mut [u8], at: usize) -> Room
-    ensures { λ r. ⌜ (r ≡ roomAfter (now (out .entry)) at (now (text .entry))) × (now (out .exit) ≡ putInto (now (out .entry)) at (now (text .entry))) ⌝ }
+    ensures { λ r. ⌜ Puts (now (out .entry)) at (now (text .entry)) r (now (out .exit)) ⌝ }
 {
     if out.len() < at {
         return Room::Full;
@@ -83,13 +106,13 @@ pub fn put_bytes(text: &[u8], out: &mut [u8], at: usize) -> Room
 
 // Puts a text and LF, as `put_bytes` does.
 pub fn put_fixed(text: &[u8], out: &mut [u8], at: usize) -> Room
-    ensures { λ r. ⌜ (r ≡ roomAfter (now (out .entry)) at (fixedLine (now (text .entry)))) × (now (out .exit) ≡ putInto (now (out .entry)) at (fixedLine (now (text .entry)))) ⌝ }
+    ensures { λ r. ⌜ Puts (now (out .entry)) at (fixedLine (now (text .entry))) r (now (out .exit)) ⌝ }
 {
     if room_left(out.len(), at) <= text.len() {
         return Room::Full;
     }
     let next = write_bytes(text, out, at);
-    out[next] = 10;
+    out[next] = b'\n';
     Room::Put(next + 1)
 }
 
@@ -99,7 +122,7 @@ fn hex_digit(d: u8) -> u8
     ensures { λ r. ⌜ r ≡ hexDigit d ⌝ }
 {
     if d < 10 {
-        return 48 + d;
+        return b'0' + d;
     }
     55 + d
 }
@@ -124,13 +147,14 @@ fn hex_count(n: usize) -> usize
     2 * n
 }
 
-// Writes bytes as digits, `-` for none, and answers the place behind them.
+// Writes bytes as digits, `-` for none, and answers the place after them.
 fn write_hex(bytes: &[u8], out: &mut [u8], at: usize) -> usize
     requires { ⌜ at + hexCount (length (now bytes)) ≤ length (now out) ⌝ }
-    ensures { λ r. ⌜ (r ≡ at + hexCount (length (now (bytes .entry)))) × (now (out .exit) ≡ sets (now (out .entry)) at (hexOf (now (bytes .entry)))) ⌝ }
+    ensures { λ r. ⌜ (r ≡ at + hexCount (length (now (bytes .entry))))
+        × (now (out .exit) ≡ sets (now (out .entry)) at (hexOf (now (bytes .entry)))) ⌝ }
 {
     if bytes.len() == 0 {
-        out[at] = 45;
+        out[at] = b'-';
         return at + 1;
     }
     let mut i = 0;
@@ -143,21 +167,22 @@ fn write_hex(bytes: &[u8], out: &mut [u8], at: usize) -> usize
     p
 }
 
-// Writes a code that is held in a number as digits, `-` for no bytes, and answers the place behind them.
+// Writes a code's bytes as digits, `-` for no bytes, and answers the place after them.
 fn write_code(bits: u32, len: usize, out: &mut [u8], at: usize) -> usize
     requires { ⌜ at + hexCount len ≤ length (now out) ⌝ }
-    ensures { λ r. ⌜ (r ≡ at + hexCount len) × (now (out .exit) ≡ sets (now (out .entry)) at (hexOf (unpacked len bits))) ⌝ }
+    ensures { λ r. ⌜ (r ≡ at + hexCount len)
+        × (now (out .exit) ≡ sets (now (out .entry)) at (hexOf (unpacked len bits))) ⌝ }
 {
     if len == 0 {
-        out[at] = 45;
+        out[at] = b'-';
         return at + 1;
     }
     let mut rest = bits;
     let mut left = len;
     let mut p = at;
     while 0 < left {
-        write_byte((rest / 16777216) as u8, out, p);
-        rest = rest % 16777216 * 256;
+        write_byte((rest / TOP) as u8, out, p);
+        rest = rest % TOP * 256;
         p += 2;
         left -= 1;
     }
@@ -181,7 +206,7 @@ fn decimal_count(n: u64) -> usize
 fn last_digit(n: u64) -> u8
     ensures { λ r. ⌜ r ≡ 48 + n % 10 ⌝ }
 {
-    48 + (n % 10) as u8
+    b'0' + (n % 10) as u8
 }
 
 // Writes the `count` lowest decimal digits of `n`, the lowest last.
@@ -198,20 +223,22 @@ fn write_digits(n: u64, count: usize, out: &mut [u8], at: usize)
     }
 }
 
-// Writes a text and the `count` lowest decimal digits of `n`, and answers the place behind them.
+// Writes a text and the `count` lowest decimal digits of `n`, and answers the place after them.
 fn write_number(before: &[u8], n: u64, count: usize, out: &mut [u8], at: usize) -> usize
     requires { ⌜ at + (length (now before) + count) ≤ length (now out) ⌝ }
-    ensures { λ r. ⌜ (r ≡ at + (length (now (before .entry)) + count)) × (now (out .exit) ≡ sets (now (out .entry)) at (now (before .entry) ++ digitsOf count n)) ⌝ }
+    ensures { λ r. ⌜ (r ≡ at + (length (now (before .entry)) + count))
+        × (now (out .exit) ≡ sets (now (out .entry)) at (now (before .entry) ++ digitsOf count n)) ⌝ }
 {
     let p = write_bytes(before, out, at);
     write_digits(n, count, out, p);
     p + count
 }
 
-// Puts two numbers, each behind a text, and LF.
+// Puts two numbers, each after a text, and LF.
 fn put_two(first: &[u8], n: u64, second: &[u8], m: u64, out: &mut [u8], at: usize) -> Room
     requires { ⌜ (length (now first) ≤ 64) × (length (now second) ≤ 64) ⌝ }
-    ensures { λ r. ⌜ (r ≡ roomAfter (now (out .entry)) at (twoNumbers (now (first .entry)) n (now (second .entry)) m)) × (now (out .exit) ≡ putInto (now (out .entry)) at (twoNumbers (now (first .entry)) n (now (second .entry)) m)) ⌝ }
+    ensures { λ r. ⌜ (let line = twoNumbers (now (first .entry)) n (now (second .entry)) m in
+        Puts (now (out .entry)) at line r (now (out .exit))) ⌝ }
 {
     let a = decimal_count(n);
     let b = decimal_count(m);
@@ -220,13 +247,14 @@ fn put_two(first: &[u8], n: u64, second: &[u8], m: u64, out: &mut [u8], at: usiz
     }
     let p = write_number(first, n, a, out, at);
     let q = write_number(second, m, b, out, p);
-    out[q] = 10;
+    out[q] = b'\n';
     Room::Put(q + 1)
 }
 
-// Puts the line of an accepted table. This and the next four put a line where it fits; else `out` is as it was.
+// Puts the line of an accepted table. This function and the next four put a line if it fits; otherwise `out` stays as
+// it was.
 pub fn put_ok(count: u32, out: &mut [u8], at: usize) -> Room
-    ensures { λ r. ⌜ (r ≡ roomAfter (now (out .entry)) at (okLine count)) × (now (out .exit) ≡ putInto (now (out .entry)) at (okLine count)) ⌝ }
+    ensures { λ r. ⌜ Puts (now (out .entry)) at (okLine count) r (now (out .exit)) ⌝ }
 {
     let n = count as u64;
     let a = decimal_count(n);
@@ -234,27 +262,27 @@ pub fn put_ok(count: u32, out: &mut [u8], at: usize) -> Room
         return Room::Full;
     }
     let p = write_number(b"TABLE OK ", n, a, out, at);
-    out[p] = 10;
+    out[p] = b'\n';
     Room::Put(p + 1)
 }
 
 // Puts the line of a refused table.
 pub fn put_refused(number: u32, line: usize, out: &mut [u8], at: usize) -> Room
-    ensures { λ r. ⌜ (r ≡ roomAfter (now (out .entry)) at (refusedLine number line)) × (now (out .exit) ≡ putInto (now (out .entry)) at (refusedLine number line)) ⌝ }
+    ensures { λ r. ⌜ Puts (now (out .entry)) at (refusedLine number line) r (now (out .exit)) ⌝ }
 {
     put_two(b"TABLE REFUSED ", number as u64, b" ", line as u64, out, at)
 }
 
 // Puts the audit's last line.
 pub fn put_closing(looked: u64, listed: u64, out: &mut [u8], at: usize) -> Room
-    ensures { λ r. ⌜ (r ≡ roomAfter (now (out .entry)) at (closingLine looked listed)) × (now (out .exit) ≡ putInto (now (out .entry)) at (closingLine looked listed)) ⌝ }
+    ensures { λ r. ⌜ Puts (now (out .entry)) at (closingLine looked listed) r (now (out .exit)) ⌝ }
 {
     put_two(b"LOOKED ", looked, b" LISTED ", listed, out, at)
 }
 
 // Puts a frame's line.
 pub fn put_answer(number: u32, read: usize, text: &[u8], out: &mut [u8], at: usize) -> Room
-    ensures { λ r. ⌜ (r ≡ roomAfter (now (out .entry)) at (answerLine number read (now (text .entry)))) × (now (out .exit) ≡ putInto (now (out .entry)) at (answerLine number read (now (text .entry)))) ⌝ }
+    ensures { λ r. ⌜ Puts (now (out .entry)) at (answerLine number read (now (text .entry))) r (now (out .exit)) ⌝ }
 {
     let n = number as u64;
     let m = read as u64;
@@ -270,15 +298,15 @@ pub fn put_answer(number: u32, read: usize, text: &[u8], out: &mut [u8], at: usi
     }
     write_digits(n, a, out, at);
     let q = write_number(b" ", m, b, out, at + a);
-    out[q] = 32;
+    out[q] = b' ';
     let e = write_hex(text, out, q + 1);
-    out[e] = 10;
+    out[e] = b'\n';
     Room::Put(e + 1)
 }
 
-// Puts a finding of the audit: a code of `len` bytes, the first on top of `bits`, and its cause.
+// Puts a finding of the audit: a code of `len` bytes, the first the highest of `bits`, and its cause.
 pub fn put_finding(bits: u32, len: u32, cause: u32, out: &mut [u8], at: usize) -> Room
-    ensures { λ r. ⌜ (r ≡ roomAfter (now (out .entry)) at (findingLine (unpacked len bits) cause)) × (now (out .exit) ≡ putInto (now (out .entry)) at (findingLine (unpacked len bits) cause)) ⌝ }
+    ensures { λ r. ⌜ Puts (now (out .entry)) at (findingLine (unpacked len bits) cause) r (now (out .exit)) ⌝ }
 {
     let n = cause as u64;
     let bytes = len as usize;
@@ -289,20 +317,8 @@ pub fn put_finding(bits: u32, len: u32, cause: u32, out: &mut [u8], at: usize) -
     }
     let p = write_code(bits, bytes, out, at);
     let q = write_number(b" ", n, a, out, p);
-    out[q] = 10;
+    out[q] = b'\n';
     Room::Put(q + 1)
-}
-
-// The value of a hexadecimal digit, 16 for any other byte.
-fn digit_value(b: u8) -> u8
-    ensures { λ r. ⌜ (r ≡ digitValue b) × (r ≤ 16) ⌝ }
-{
-    match b {
-        48..=57 => b - 48,
-        65..=70 => b - 55,
-        97..=102 => b - 87,
-        _ => 16,
-    }
 }
 
 // Whether each byte is a hexadecimal digit.
@@ -311,7 +327,7 @@ fn all_digits(line: &[u8]) -> bool
 {
     let mut i = 0;
     while i < line.len() {
-        if digit_value(line[i]) == 16 {
+        if digit(line[i]) == 16 {
             return false;
         }
         i += 1;
@@ -326,7 +342,7 @@ fn is_dash(line: &[u8]) -> bool
     if line.len() != 1 {
         return false;
     }
-    line[0] == 45
+    line[0] == b'-'
 }
 
 // Whether the line is the digits of 1 to 4,096 bytes.
@@ -347,23 +363,25 @@ fn is_hex(line: &[u8]) -> bool
 
 // Writes the bytes of digits to the front of `out`.
 fn write_frame(line: &[u8], count: usize, out: &mut [u8])
-    requires { ⌜ (2 * count ≡ length (now line)) × (count ≤ length (now out)) × (allDigits (now line) ≡ true) ⌝ }
-    ensures { λ r. ⌜ now (out .exit) ≡ sets (now (out .entry)) 0 (bytesOf (now (line .entry))) ⌝ }
+    requires { ⌜ (2 * count ≡ length (now line)) × (count ≤ length (now out))
+        × (allDigits (now line) ≡ true) ⌝ }
+    ensures { λ r. ⌜ now (out .exit) ≡ sets (now (out .entry)) 0 (bytesOfHex (now (line .entry))) ⌝ }
 {
     let mut i = 0;
     let mut p = 0;
     while i < count {
-        let high = digit_value(line[p]);
-        let low = digit_value(line[p + 1]);
-        out[i] = high * 16 + low;
+        let high = digit(line[p]);
+        let low = digit(line[p + 1]);
+        out[i] = (high * 16 + low) as u8;
         p += 2;
         i += 1;
     }
 }
 
-// Reads a frame's line into the front of `out`; `out` is as it was where the line is bad or the frame does not fit.
+// Reads a frame's line into the front of `out`; if the line is bad or the frame does not fit, `out` stays as it was.
 pub fn parse_frame(line: &[u8], out: &mut [u8]) -> Parsed
-    ensures { λ r. ⌜ (r ≡ parsedAnswer (now (out .entry)) (parsed (now (line .entry)))) × (now (out .exit) ≡ parsedInto (now (out .entry)) (parsed (now (line .entry)))) ⌝ }
+    ensures { λ r. ⌜ (r ≡ parsedAnswer (now (out .entry)) (parsed (now (line .entry))))
+        × (now (out .exit) ≡ parsedInto (now (out .entry)) (parsed (now (line .entry)))) ⌝ }
 {
     if is_dash(line) {
         return Parsed::Frame(0);
@@ -382,11 +400,12 @@ pub fn parse_frame(line: &[u8], out: &mut [u8]) -> Parsed
 // The place of the first LF from `at` on, or the end.
 fn line_end(chunk: &[u8], at: usize) -> usize
     requires { ⌜ at ≤ length (now chunk) ⌝ }
-    ensures { λ r. ⌜ (r ≡ at + lead inLine (drop at (now (chunk .entry)))) × (at ≤ r) × (r ≤ length (now (chunk .entry))) ⌝ }
+    ensures { λ r. ⌜ (r ≡ at + prefixLength inLine (drop at (now (chunk .entry))))
+        × (at ≤ r) × (r ≤ length (now (chunk .entry))) ⌝ }
 {
     let mut i = at;
     while i < chunk.len() {
-        if chunk[i] == 10 {
+        if chunk[i] == b'\n' {
             return i;
         }
         i += 1;
@@ -394,12 +413,15 @@ fn line_end(chunk: &[u8], at: usize) -> usize
     i
 }
 
-// Puts bytes behind what is held of a line; what does not fit makes the line too long, and `line` keeps what it had.
+// Appends bytes to the line so far; if they do not fit, the line is too long, and `line` stays as it was.
 fn hold(part: &[u8], line: &mut [u8], held: Partial) -> Partial
-    ensures { λ r. ⌜ (r ≡ partialOf (extend (length (now (line .entry))) (heldIn (now (line .entry)) held) (now (part .entry)))) × (now (line .exit) ≡ keptIn (now (line .entry)) (extend (length (now (line .entry))) (heldIn (now (line .entry)) held) (now (part .entry)))) ⌝ }
+    ensures { λ r. ⌜ (let old = now (line .entry) in
+        let longer = extend (length old) (partialIn old held) (now (part .entry)) in
+        (r ≡ partialOf longer)
+        × (now (line .exit) ≡ keptIn old longer)) ⌝ }
 {
     if held.long {
-        return Partial { len: 0, long: true };
+        return TOO_LONG;
     }
     let len = held.len;
     let room = put_bytes(part, line, len);
@@ -408,13 +430,16 @@ fn hold(part: &[u8], line: &mut [u8], held: Partial) -> Partial
             len: next,
             long: false,
         },
-        Room::Full => Partial { len: 0, long: true },
+        Room::Full => TOO_LONG,
     }
 }
 
-// Takes the bytes of `chunk` from `at` on, up to an LF or the end, behind what `line` holds.
+// Appends the bytes of `chunk` from `at` on, up to an LF or the end, to the line so far.
 pub fn take_line(chunk: &[u8], at: usize, line: &mut [u8], held: Partial) -> Taken
-    ensures { λ r. ⌜ (r ≡ takenAnswer at (stepOf (length (now (line .entry))) (heldIn (now (line .entry)) held) (drop at (now (chunk .entry))))) × (now (line .exit) ≡ takenInto (now (line .entry)) (stepOf (length (now (line .entry))) (heldIn (now (line .entry)) held) (drop at (now (chunk .entry))))) ⌝ }
+    ensures { λ r. ⌜ (let old = now (line .entry) in
+        let step = pieceStep (length old) (partialIn old held) (drop at (now (chunk .entry))) in
+        (r ≡ takenAnswer at step)
+        × (now (line .exit) ≡ takenInto old step)) ⌝ }
 {
     if chunk.len() <= at {
         let kept = hold(b"", line, held);

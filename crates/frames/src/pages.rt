@@ -10,19 +10,20 @@ ghost use Prim.Native.Nat.{_≤_, _<_};
 ghost use lib.ListN.{length, take};
 ghost use Rattle.table.specs.Slices.{slices};
 ghost use Rattle.frames.specs.Lines.{closingLine, putInto, putCount};
-ghost use Rattle.frames.specs.Pages.{findingLines, entryLines, pageSpace, pageIn, moreAfter, listedOf, codesLeft};
+ghost use Rattle.frames.specs.Pages.{findingLines, pageSpace, pageIn, moreAfter, listedOf, codesLeft};
+ghost use Rattle.frames.specs.loops.Inner.{entryLines};
 
 // How far the audit's list has come: the position, codes looked at, findings listed.
-pub struct Listing {
+pub struct ListedSoFar {
     pub position: Code,
     pub looked: u64,
     pub listed: u64,
 }
 
-// What a page of the list gives: how the audit's call ended, how far the list has come, bytes put, whether there is more.
+// One page of the list: how the audit's call ended, how far the list has come, bytes put, and whether there is more.
 pub struct Listed {
     pub ending: Ending,
-    pub reached: Listing,
+    pub reached: ListedSoFar,
     pub put: usize,
     pub more: bool,
 }
@@ -38,7 +39,7 @@ fn page_space(room: usize) -> usize
     1024
 }
 
-// Whether the list goes on behind a page.
+// Whether the list goes on after a page.
 fn is_more(ending: Ending, finished: bool) -> bool
     ensures { λ r. ⌜ r ≡ moreAfter ending finished ⌝ }
 {
@@ -51,7 +52,8 @@ fn is_more(ending: Ending, finished: bool) -> bool
 // Puts the lines of entries, for which there is room, to the front of `out`.
 fn put_findings(entries: &[u64], out: &mut [u8]) -> usize
     requires { ⌜ length (entryLines (now entries)) ≤ length (now out) ⌝ }
-    ensures { λ r. ⌜ (r ≡ length (entryLines (now (entries .entry)))) × (now (out .exit) ≡ putInto (now (out .entry)) 0 (entryLines (now (entries .entry)))) ⌝ }
+    ensures { λ r. ⌜ (r ≡ length (entryLines (now (entries .entry))))
+        × (now (out .exit) ≡ putInto (now (out .entry)) 0 (entryLines (now (entries .entry)))) ⌝ }
 {
     let mut i = 0;
     let mut put = 0;
@@ -79,15 +81,18 @@ pub fn list_codes(
     codes: &[u32],
     infos: &[u32],
     order: &[u32],
-    done: Listing,
+    done: ListedSoFar,
     out: &mut [u8],
 ) -> Listed
-    ensures { λ r. ⌜ (let m = slices (now (states .entry)) (now (codes .entry)) (now (infos .entry)) (now (order .entry)) in
+    ensures { λ r. ⌜ (let m =
+        slices (now (states .entry)) (now (codes .entry)) (now (infos .entry)) (now (order .entry)) in
         let a = pageIn rec m (done .position) (length (now (out .entry))) in
         (r ≡ listedOf done a)
         × (now (out .exit) ≡ putInto (now (out .entry)) 0 (findingLines (a .page .entries)))) ⌝ }
-    ensures { λ r. ⌜ (let m = slices (now (states .entry)) (now (codes .entry)) (now (infos .entry)) (now (order .entry)) in
-        (r .more ≡ true → 11 ≤ length (now (out .entry)) → codesLeft rec m (r .reached .position) < codesLeft rec m (done .position))) ⌝ }
+    ensures { λ r. ⌜ (let m =
+        slices (now (states .entry)) (now (codes .entry)) (now (infos .entry)) (now (order .entry)) in
+        (r .more ≡ true → 11 ≤ length (now (out .entry))
+        → codesLeft rec m (r .reached .position) < codesLeft rec m (done .position))) ⌝ }
     ensures { λ r. ⌜ (r .put ≤ length (now (out .exit))) × (r .put ≡ length (take (r .put) (now (out .exit)))) ⌝ }
 {
     let mut entries = [0u64; 1024];
@@ -110,7 +115,7 @@ pub fn list_codes(
     let ending = page.ending;
     Listed {
         ending: ending,
-        reached: Listing {
+        reached: ListedSoFar {
             position: last,
             looked: std::num::wrapping_add_u64(done.looked, page.count),
             listed: std::num::wrapping_add_u64(done.listed, written as u64),
@@ -121,8 +126,10 @@ pub fn list_codes(
 }
 
 // Puts the closing line to the front of `out`; answers how many bytes.
-pub fn report_closing(done: Listing, out: &mut [u8]) -> usize
-    ensures { λ r. ⌜ (r ≡ putCount (now (out .entry)) (closingLine (done .looked) (done .listed))) × (now (out .exit) ≡ putInto (now (out .entry)) 0 (closingLine (done .looked) (done .listed))) ⌝ }
+pub fn report_closing(done: ListedSoFar, out: &mut [u8]) -> usize
+    ensures { λ r. ⌜ (let line = closingLine (done .looked) (done .listed) in
+        (r ≡ putCount (now (out .entry)) line)
+        × (now (out .exit) ≡ putInto (now (out .entry)) 0 line)) ⌝ }
     ensures { λ r. ⌜ (r ≤ length (now (out .exit))) × (r ≡ length (take r (now (out .exit)))) ⌝ }
 {
     let room = lines::put_closing(done.looked, done.listed, out, 0);

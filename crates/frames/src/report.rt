@@ -12,11 +12,12 @@ ghost use mathlib.Core.Option.{some};
 ghost use Prim.Native.Nat.{_≤_, _<_};
 ghost use lib.ListN.{length, take, drop};
 ghost use Rattle.table.specs.Slices.{slices};
-ghost use Rattle.frames.specs.Lines.{parsed, roomAfter, putInto, putCount};
-ghost use Rattle.frames.specs.Stream.{heldIn, lastLine, partialOf};
-ghost use Rattle.frames.specs.Report.{tableLine, convertIn, frameLine, lineReport, linesReport, toldOf, progressOf};
+ghost use Rattle.frames.specs.Lines.{parsed, putInto, putCount, Puts};
+ghost use Rattle.frames.specs.Stream.{partialIn, lastLine, partialOf};
+ghost use Rattle.frames.specs.Report.{tableLine, convertIn, frameLine, lineReport, linesReport, reportingOf};
+ghost use Rattle.frames.specs.Report.{progressOf};
 
-// How far a call came through a piece of input: the place behind what it took, what is held of the next line, bytes put.
+// How far a call came through a piece of input: the place after the bytes it took, the next line so far, bytes put.
 pub struct Progress {
     pub at: usize,
     pub held: Partial,
@@ -42,16 +43,16 @@ fn report_frame(
     at: usize,
 ) -> Room
     requires { ⌜ length (now text) ≡ 16384 ⌝ }
-    ensures { λ r. ⌜ (let m = slices (now (states .entry)) (now (codes .entry)) (now (infos .entry)) (now (order .entry)) in
+    ensures { λ r. ⌜ (let m =
+        slices (now (states .entry)) (now (codes .entry)) (now (infos .entry)) (now (order .entry)) in
         let shown = frameLine (convertIn rec m) (some (now (frame .entry))) in
-        (r ≡ roomAfter (now (out .entry)) at shown)
-        × (now (out .exit) ≡ putInto (now (out .entry)) at shown)) ⌝ }
+        Puts (now (out .entry)) at shown r (now (out .exit))) ⌝ }
 {
     let done = convert::to_utf8(rec, states, codes, infos, order, frame, text, SETTINGS);
-    let halt = done.halt;
+    let end = done.end;
     let written = done.written;
     lines::put_answer(
-        convert::halt_number(halt),
+        convert::end_number(end),
         done.read,
         &text[..written],
         out,
@@ -73,10 +74,10 @@ fn report_line(
     at: usize,
 ) -> Room
     requires { ⌜ (4096 ≤ length (now frame)) × (length (now text) ≡ 16384) ⌝ }
-    ensures { λ r. ⌜ (let m = slices (now (states .entry)) (now (codes .entry)) (now (infos .entry)) (now (order .entry)) in
+    ensures { λ r. ⌜ (let m =
+        slices (now (states .entry)) (now (codes .entry)) (now (infos .entry)) (now (order .entry)) in
         let shown = frameLine (convertIn rec m) (parsed (now (line .entry))) in
-        (r ≡ roomAfter (now (out .entry)) at shown)
-        × (now (out .exit) ≡ putInto (now (out .entry)) at shown)) ⌝ }
+        Puts (now (out .entry)) at shown r (now (out .exit))) ⌝ }
 {
     match lines::parse_frame(line, frame) {
         Parsed::Frame(n) => report_frame(
@@ -94,7 +95,7 @@ fn report_line(
     }
 }
 
-// Puts the line for what memory holds of a line. `frame` and `text` are working space.
+// Puts the report line of the line that `line` and `held` give. `frame` and `text` are working space.
 fn report_held(
     rec: Record,
     states: &[u16],
@@ -109,10 +110,10 @@ fn report_held(
     at: usize,
 ) -> Room
     requires { ⌜ (4096 ≤ length (now frame)) × (length (now text) ≡ 16384) ⌝ }
-    ensures { λ r. ⌜ (let m = slices (now (states .entry)) (now (codes .entry)) (now (infos .entry)) (now (order .entry)) in
-        let shown = lineReport (convertIn rec m) (heldIn (now (line .entry)) held) in
-        (r ≡ roomAfter (now (out .entry)) at shown)
-        × (now (out .exit) ≡ putInto (now (out .entry)) at shown)) ⌝ }
+    ensures { λ r. ⌜ (let m =
+        slices (now (states .entry)) (now (codes .entry)) (now (infos .entry)) (now (order .entry)) in
+        let shown = lineReport (convertIn rec m) (partialIn (now (line .entry)) held) in
+        Puts (now (out .entry)) at shown r (now (out .exit))) ⌝ }
 {
     if held.long {
         return lines::put_fixed(b"BAD FRAME", out, at);
@@ -135,20 +136,21 @@ fn report_held(
     )
 }
 
-// What is held of a line, with a count past the memory told as a line that is too long.
-fn settle(line: &[u8], held: Partial) -> Partial
-    ensures { λ r. ⌜ (r ≡ partialOf (heldIn (now (line .entry)) held)) × (heldIn (now (line .entry)) r ≡ heldIn (now (line .entry)) held) ⌝ }
+// The line so far; a count past the memory means a line that is too long.
+fn normalise(line: &[u8], held: Partial) -> Partial
+    ensures { λ r. ⌜ (r ≡ partialOf (partialIn (now (line .entry)) held))
+        × (partialIn (now (line .entry)) r ≡ partialIn (now (line .entry)) held) ⌝ }
 {
     if held.long {
-        return Partial { len: 0, long: true };
+        return lines::TOO_LONG;
     }
     if line.len() < held.len {
-        return Partial { len: 0, long: true };
+        return lines::TOO_LONG;
     }
     held
 }
 
-// The answer of a call that came so far.
+// The progress of a call.
 fn reached(at: usize, held: Partial, put: usize) -> Progress
     ensures { λ r. ⌜ r ≡ record { at = at; held = held; put = put } ⌝ }
 {
@@ -175,13 +177,17 @@ fn take_frames(
     out: &mut [u8],
 ) -> Progress
     requires { ⌜ (4096 ≤ length (now frame)) × (length (now text) ≡ 16384) ⌝ }
-    ensures { λ r. ⌜ (let m = slices (now (states .entry)) (now (codes .entry)) (now (infos .entry)) (now (order .entry)) in
-        let told = toldOf (lineReport (convertIn rec m)) (now (line .entry)) (heldIn (now (line .entry)) held) (drop from (now (chunk .entry))) (length (now (out .entry))) in
-        (r ≡ progressOf from told)
-        × (now (line .exit) ≡ told .memory)
-        × (now (out .exit) ≡ putInto (now (out .entry)) 0 (told .text))) ⌝ }
+    ensures { λ r. ⌜ (let m =
+        slices (now (states .entry)) (now (codes .entry)) (now (infos .entry)) (now (order .entry)) in
+        let old = now (line .entry) in
+        let rest = drop from (now (chunk .entry)) in
+        let room = length (now (out .entry)) in
+        let call = reportingOf (lineReport (convertIn rec m)) old (partialIn old held) rest room in
+        (r ≡ progressOf from call)
+        × (now (line .exit) ≡ call .memory)
+        × (now (out .exit) ≡ putInto (now (out .entry)) 0 (call .text))) ⌝ }
 {
-    let mut kept = settle(line, held);
+    let mut kept = normalise(line, held);
     let mut at = from;
     let mut put = 0;
     while at < chunk.len() {
@@ -208,18 +214,16 @@ fn take_frames(
                 };
                 put = behind;
                 at = next;
-                kept = Partial {
-                    len: 0,
-                    long: false,
-                };
+                kept = lines::EMPTY;
             }
         }
     }
     reached(at, kept, put)
 }
 
-// Takes the bytes of `chunk` from `from` on and puts a line for each that comes to its end, to the front of `out`. Where a line does not
-// fit, the call stops before that line's LF; the line is held and reported by the next call. The widest line has 32,777 bytes.
+// Takes the bytes of `chunk` from `from` on, and puts a report line for each line that ends, to the front of `out`. If
+// a report line does not fit, the call stops before the LF of its line and keeps that line for the next call. The
+// widest report line has 32,777 bytes.
 pub fn report_frames(
     rec: Record,
     states: &[u16],
@@ -232,12 +236,17 @@ pub fn report_frames(
     held: Partial,
     out: &mut [u8],
 ) -> Progress
-    ensures { λ r. ⌜ (let m = slices (now (states .entry)) (now (codes .entry)) (now (infos .entry)) (now (order .entry)) in
-        let told = toldOf (lineReport (convertIn rec m)) (now (line .entry)) (heldIn (now (line .entry)) held) (drop from (now (chunk .entry))) (length (now (out .entry))) in
-        (r ≡ progressOf from told)
-        × (now (line .exit) ≡ told .memory)
-        × (now (out .exit) ≡ putInto (now (out .entry)) 0 (told .text))) ⌝ }
-    ensures { λ r. ⌜ (from < length (now (chunk .entry)) → 32777 ≤ length (now (out .entry)) → from < r .at) × (from ≤ length (now (chunk .entry)) → r .at ≤ length (now (chunk .entry))) ⌝ }
+    ensures { λ r. ⌜ (let m =
+        slices (now (states .entry)) (now (codes .entry)) (now (infos .entry)) (now (order .entry)) in
+        let old = now (line .entry) in
+        let rest = drop from (now (chunk .entry)) in
+        let room = length (now (out .entry)) in
+        let call = reportingOf (lineReport (convertIn rec m)) old (partialIn old held) rest room in
+        (r ≡ progressOf from call)
+        × (now (line .exit) ≡ call .memory)
+        × (now (out .exit) ≡ putInto (now (out .entry)) 0 (call .text))) ⌝ }
+    ensures { λ r. ⌜ (from < length (now (chunk .entry)) → 32777 ≤ length (now (out .entry)) → from < r .at)
+        × (from ≤ length (now (chunk .entry)) → r .at ≤ length (now (chunk .entry))) ⌝ }
     ensures { λ r. ⌜ (r .put ≤ length (now (out .exit))) × (r .put ≡ length (take (r .put) (now (out .exit)))) ⌝ }
 {
     let mut frame = [0u8; 4096];
@@ -258,7 +267,7 @@ pub fn report_frames(
     )
 }
 
-// Puts the line for what is held at the input's end, if it has bytes, to the front of `out`; answers how many bytes.
+// Puts the report line of the last line, if it has bytes and no LF, to the front of `out`; answers how many bytes.
 pub fn report_last(
     rec: Record,
     states: &[u16],
@@ -269,15 +278,16 @@ pub fn report_last(
     held: Partial,
     out: &mut [u8],
 ) -> usize
-    ensures { λ r. ⌜ (let m = slices (now (states .entry)) (now (codes .entry)) (now (infos .entry)) (now (order .entry)) in
-        let shown = linesReport (lineReport (convertIn rec m)) (lastLine (heldIn (now (line .entry)) held)) in
+    ensures { λ r. ⌜ (let m =
+        slices (now (states .entry)) (now (codes .entry)) (now (infos .entry)) (now (order .entry)) in
+        let shown = linesReport (lineReport (convertIn rec m)) (lastLine (partialIn (now (line .entry)) held)) in
         (r ≡ putCount (now (out .entry)) shown)
         × (now (out .exit) ≡ putInto (now (out .entry)) 0 shown)) ⌝ }
     ensures { λ r. ⌜ (r ≤ length (now (out .exit))) × (r ≡ length (take r (now (out .exit)))) ⌝ }
 {
     let mut frame = [0u8; 4096];
     let mut text = [0u8; 16384];
-    let kept = settle(line, held);
+    let kept = normalise(line, held);
     if !kept.long {
         if kept.len == 0 {
             return 0;
@@ -301,7 +311,8 @@ pub fn report_last(
 
 // Puts the first line of the report, that of the table, to the front of `out`; answers how many bytes.
 pub fn report_table(loaded: Loaded, out: &mut [u8]) -> usize
-    ensures { λ r. ⌜ (r ≡ putCount (now (out .entry)) (tableLine loaded)) × (now (out .exit) ≡ putInto (now (out .entry)) 0 (tableLine loaded)) ⌝ }
+    ensures { λ r. ⌜ (r ≡ putCount (now (out .entry)) (tableLine loaded))
+        × (now (out .exit) ≡ putInto (now (out .entry)) 0 (tableLine loaded)) ⌝ }
     ensures { λ r. ⌜ (r ≤ length (now (out .exit))) × (r ≡ length (take r (now (out .exit)))) ⌝ }
 {
     let held = loaded.table;

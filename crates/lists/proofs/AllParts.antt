@@ -5,7 +5,7 @@ use lib.ListN.{take}
 use Rattle.lists.specs.Order.{All}
 
 module _ {A : Type 0} (P : A → Type 0) where
-  pub all-take : (n : ℕ) (l : List A) → All P l → All P (take n l)
-  all-take zero l h = tt
-  all-take (suc n) [] h = tt
-  all-take (suc n) (x ∷ l) h = (h .0, all-take n l (h .1))
+  pub All-take : (n : ℕ) (l : List A) → All P l → All P (take n l)
+  All-take zero l h = tt
+  All-take (suc n) [] h = tt
+  All-take (suc n) (x ∷ l) h = (h .0, All-take n l (h .1))

@@ -4,6 +4,6 @@ use Prim.Native.Nat.{ℕ, zero, suc}
 use lib.ListN.{getD}
 use Rattle.lists.specs.Order.{All}
 
-pub all-places : {A : Type 0} (P : A → Type 0) (l : List A) (d : A) → ((i : ℕ) → P (getD l i d)) → All P l
-all-places P [] d h = tt
-all-places P (x ∷ l) d h = (h zero, all-places P l d (λ i. h (suc i)))
+pub All-getD⁺ : {A : Type 0} (P : A → Type 0) (l : List A) (d : A) → ((i : ℕ) → P (getD l i d)) → All P l
+All-getD⁺ P [] d h = tt
+All-getD⁺ P (x ∷ l) d h = (h zero, All-getD⁺ P l d (λ i. h (suc i)))

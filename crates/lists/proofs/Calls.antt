@@ -7,55 +7,58 @@ use mathlib.Core.Logic.{_⊎_, inl, _↔_}
 use mathlib.Core.List.{List, [], _∷_, _++_, append-nil, append-assoc, map, map-append}
 use lib.ListN.{length, length-append}
 use Rattle.lists.specs.Order.{All}
-use Rattle.lists.specs.Paging.{Listing, Page, toldBy, notedBy, left, upTo, notes, pageFrom, Place, Lawful}
-use Rattle.lists.specs.Calls.{Call, Chain, joined, summed, lastPosition, lastFinished, Moves, Tells, AsListed, PagedCalls}
-use Rattle.lists.proofs.Order.{all-map}
-use Rattle.lists.proofs.Paging.{those-rest, notes-append, moves-on, none-first, Done, done, place-kept}
+use Rattle.lists.specs.Paging.{Pageable, Page, mapPosition, mapEntries, following, upTo, entriesFor, pageFrom, Place, Enumerates}
+use Rattle.lists.specs.Calls.{Call, Chain, joined, summed, lastPosition, lastFinished, Moves}
+use Rattle.lists.specs.loops.PagedCalls.{IsPosition, AsListed, PagedCalls}
+use Rattle.lists.proofs.Order.{All-⇒}
+use Rattle.lists.proofs.Paging.{notes-++, pageFrom-moves, upTo-start, Done, pageFrom-done, Place-pageFrom}
+use Rattle.lists.proofs.Filter.{filtered-rest}
 
 -- what a finished call tells of its position holds of the last position, where the last call is finished
-pub last-finished : {F Q : Type 0} (R : Q → Type 0) (cs : List (Call F Q)) (q : Q) (f : Bool) → (f ≡ true → R q)
-    → All (λ c. (c .page .finished ≡ true) ↔ R (c .page .position)) cs → lastFinished f cs ≡ true → R (lastPosition q cs)
+pub lastPosition-finished : {F Q : Type 0} (R : Q → Type 0) (cs : List (Call F Q)) (q : Q) (f : Bool) → (f ≡ true → R q)
+    → All (λ c. (c .page .finished ≡ true) ↔ R (c .page .position)) cs → lastFinished f cs ≡ true
+    → R (lastPosition q cs)
 unfolding lastFinished lastPosition
-last-finished R [] q f h k e = h e
-last-finished R (c ∷ cs) q f h k e = last-finished R cs (c .page .position) (c .page .finished) (k .0 .0) (k .1) e
+lastPosition-finished R [] q f h k e = h e
+lastPosition-finished R (c ∷ cs) q f h k e = lastPosition-finished R cs (c .page .position) (c .page .finished) (k .0 .0) (k .1) e
 
-module _ {A E P F Q : Type 0} (S : Listing A E P) (L : List A) (W : Lawful S L) (number : E → F) (form : P → Q) (back : Q → P)
+module _ {A E P F Q : Type 0} (S : Pageable A E P) (L : List A) (W : Enumerates S L) (number : E → F) (form : P → Q) (back : Q → P)
     (finds : (p : P) → Place S L p → back (form p) ≡ p) where
   found : (p : P) → Place S L p → (q : Q) → q ≡ form p → back q ≡ p
   found p w q e = ap back e ∙ finds p w
 
   -- what holds of each call by itself
-  record Gave (c : Call F Q) : Type 0 where
-    count : c .page .count ≡ length (upTo S (back (c .page .position)) (left S (back (c .came)) L))
-    ends : (c .page .finished ≡ true) ↔ (left S (back (c .page .position)) L ≡ [])
+  record OneCall (c : Call F Q) : Type 0 where
+    count : c .page .count ≡ length (upTo S (back (c .page .position)) (following S (back (c .came)) L))
+    ends : (c .page .finished ≡ true) ↔ (following S (back (c .page .position)) L ≡ [])
     moves : Moves c
-    came : Tells S L form (c .came)
-    position : Tells S L form (c .page .position)
+    came : IsPosition S L form (c .came)
+    position : IsPosition S L form (c .page .position)
 
   -- what a call from p did: the elements it looked at, and where it came to
-  record Went (p : P) (c : Call F Q) : Type 0 where
+  record CallFrom (p : P) (c : Call F Q) : Type 0 where
     looked : List A
     to : P
     place : Place S L to
     at : c .page .position ≡ form to
     cut : upTo S to L ≡ upTo S p L ++ looked
-    entries : c .page .entries ≡ map number (notes S looked)
+    entries : c .page .entries ≡ map number (entriesFor S looked)
     count : c .page .count ≡ length looked
     stays : c .page .count ≡ 0 → to ≡ p
-    gave : Gave c
+    gave : OneCall c
 
   module _ (c : Call F Q) (p : P) (w : Place S L p) (e : c .came ≡ form p) (h : AsListed S L number form c) where
     abbrev page : Page E P
     page = pageFrom S (c .allowance) (c .space) p
 
     abbrev did : Done S L W p page
-    did = done S L W (c .allowance) (c .space) p
+    did = pageFrom-done S L W (c .allowance) (c .space) p
 
-    page-is : c .page ≡ notedBy number (toldBy form page)
+    page-is : c .page ≡ mapEntries number (mapPosition form page)
     page-is = h p w e
 
     place : Place S L (page .position)
-    place = place-kept S L W (c .allowance) (c .space) p w
+    place = Place-pageFrom S L W (c .allowance) (c .space) p w
 
     at : c .page .position ≡ form (page .position)
     at = ap (λ (x : Page F Q). x .position) page-is
@@ -69,22 +72,23 @@ module _ {A E P F Q : Type 0} (S : Listing A E P) (L : List A) (W : Lawful S L) 
     finished-is : c .page .finished ≡ page .finished
     finished-is = ap (λ (x : Page F Q). x .finished) page-is
 
-    gave : Gave c
+    gave : OneCall c
     gave = record {
       count =
           count-is ∙ did .count ∙ ap length (sym (did .between))
-          ∙ (λ i. length (upTo S (sym new i) (left S (sym (found p w (c .came) e) i) L)));
+          ∙ (λ i. length (upTo S (sym new i) (following S (sym (found p w (c .came) e) i) L)));
       ends = (
-        λ y. ap (λ (x : P). left S x L) new ∙ did .ends .0 (sym finished-is ∙ y),
-        λ y. finished-is ∙ did .ends .1 (ap (λ (x : P). left S x L) (sym new) ∙ y),
+        λ y. ap (λ (x : P). following S x L) new ∙ did .ends .0 (sym finished-is ∙ y),
+        λ y. finished-is ∙ did .ends .1 (ap (λ (x : P). following S x L) (sym new) ∙ y),
       );
-      moves = λ m k. subst (λ (x : Page F Q). (1 ≤ x .count) ⊎ (x .finished ≡ true)) (sym page-is) (moves-on S (c .allowance) (c .space) p m k);
+      moves = λ m k. subst (λ (x : Page F Q). (1 ≤ x .count) ⊎ (x .finished ≡ true)) (sym page-is)
+          (pageFrom-moves S (c .allowance) (c .space) p m k);
       came = (p, w, e);
       position = (page .position, place, at);
     }
 
-    went : Went p c
-    went = record {
+    call-from : CallFrom p c
+    call-from = record {
       looked = did .looked;
       to = page .position;
       place = place;
@@ -96,18 +100,19 @@ module _ {A E P F Q : Type 0} (S : Listing A E P) (L : List A) (W : Lawful S L) 
       gave = gave;
     }
 
-  -- what calls from p, told as q, did
-  record Ran (p : P) (q : Q) (cs : List (Call F Q)) : Type 0 where
+  -- what calls from p, represented as q, did
+  record CallsFrom (p : P) (q : Q) (cs : List (Call F Q)) : Type 0 where
     looked : List A
     cut : upTo S (back (lastPosition q cs)) L ≡ upTo S p L ++ looked
-    entries : joined cs ≡ map number (notes S looked)
+    entries : joined cs ≡ map number (entriesFor S looked)
     counts : summed cs ≡ length looked
     stays : summed cs ≡ 0 → lastPosition q cs ≡ q
-    all : All Gave cs
+    all : All OneCall cs
 
-  ran : (cs : List (Call F Q)) (p : P) → Place S L p → (q : Q) → q ≡ form p → Chain q cs → All (AsListed S L number form) cs → Ran p q cs
-  unfolding joined summed lastPosition notes
-  ran [] p w q e ch h =
+  calls-from : (cs : List (Call F Q)) (p : P) → Place S L p → (q : Q) → q ≡ form p → Chain q cs
+      → All (AsListed S L number form) cs → CallsFrom p q cs
+  unfolding joined summed lastPosition entriesFor
+  calls-from [] p w q e ch h =
       record {
         looked = [];
         cut = ap (λ (x : P). upTo S x L) (found p w q e) ∙ sym (append-nil (upTo S p L));
@@ -116,41 +121,49 @@ module _ {A E P F Q : Type 0} (S : Listing A E P) (L : List A) (W : Lawful S L) 
         stays = λ z. refl;
         all = tt;
       }
-  ran (c ∷ cs) p w q e ch h =
-      let d = went c p w (ch .0 ∙ e) (h .0) in
-      join d (ran cs (d .to) (d .place) (c .page .position) (d .at) (ch .1) (h .1))
+  calls-from (c ∷ cs) p w q e ch h =
+      let d = call-from c p w (ch .0 ∙ e) (h .0) in
+      join d (calls-from cs (d .to) (d .place) (c .page .position) (d .at) (ch .1) (h .1))
     where
-      join : (d : Went p c) → Ran (d .to) (c .page .position) cs → Ran p q (c ∷ cs)
+      join : (d : CallFrom p c) → CallsFrom (d .to) (c .page .position) cs → CallsFrom p q (c ∷ cs)
       join d r = record {
         looked = d .looked ++ r .looked;
-        cut = r .cut ∙ ap (λ (l : List A). l ++ r .looked) (d .cut) ∙ append-assoc (upTo S p L) (d .looked) (r .looked);
+        cut =
+            r .cut ∙ ap (λ (l : List A). l ++ r .looked) (d .cut)
+            ∙ append-assoc (upTo S p L) (d .looked) (r .looked);
         entries =
-            (λ i. d .entries i ++ r .entries i) ∙ sym (map-append number (notes S (d .looked)) (notes S (r .looked)))
-            ∙ ap (map number) (sym (notes-append S (d .looked) (r .looked)));
+            (λ i. d .entries i ++ r .entries i)
+            ∙ sym (map-append number (entriesFor S (d .looked)) (entriesFor S (r .looked)))
+            ∙ ap (map number) (sym (notes-++ S (d .looked) (r .looked)));
         counts = (λ i. d .count i + r .counts i) ∙ sym (length-append (d .looked) (r .looked));
         stays = λ z. r .stays (omega arith) ∙ d .at ∙ ap form (d .stays (omega arith)) ∙ sym e;
         all = (d .gave, r .all);
       }
 
   -- THE PAGING THEOREM
-  pub paged-calls : (cs : List (Call F Q)) → Chain (form (S .start)) cs → All (AsListed S L number form) cs → PagedCalls S L number form back cs
+  pub paged-calls : (cs : List (Call F Q)) → Chain (form (S .start)) cs → All (AsListed S L number form) cs
+      → PagedCalls S L number form back cs
   paged-calls cs ch h =
-      let r = ran cs (S .start) (inl refl) (form (S .start)) refl ch h in
+      let r = calls-from cs (S .start) (inl refl) (form (S .start)) refl ch h in
       let last : P = back (lastPosition (form (S .start)) cs) in
-      let cut : upTo S last L ≡ r .looked = r .cut ∙ ap (λ (l : List A). l ++ r .looked) (none-first S L W) in
-      let entries : joined cs ≡ map number (notes S (upTo S last L)) = r .entries ∙ ap (λ (l : List A). map number (notes S l)) (sym cut) in
-      let finished : All (λ c. (c .page .finished ≡ true) ↔ (left S (back (c .page .position)) L ≡ [])) cs = all-map (λ c g. g .ends) cs (r .all) in
-      let none-left : lastFinished false cs ≡ true → left S last L ≡ [] =
-      last-finished (λ q. left S (back q) L ≡ []) cs (form (S .start)) false (λ f. absurd (false≢true f)) finished in
+      let cut : upTo S last L ≡ r .looked = r .cut ∙ ap (λ (l : List A). l ++ r .looked) (upTo-start S L W) in
+      let entries : joined cs ≡ map number (entriesFor S (upTo S last L)) =
+      r .entries ∙ ap (λ (l : List A). map number (entriesFor S l)) (sym cut) in
+      let finished : All (λ c. (c .page .finished ≡ true) ↔ (following S (back (c .page .position)) L ≡ [])) cs =
+      All-⇒ (λ c g. g .ends) cs (r .all) in
+      let none-left : lastFinished false cs ≡ true → following S last L ≡ [] =
+      lastPosition-finished (λ q. following S (back q) L ≡ []) cs (form (S .start)) false
+      (λ f. absurd (false≢true f)) finished in
       record {
         entries = entries;
         counts = r .counts ∙ ap length (sym cut);
-        each = all-map (λ c g. g .count) cs (r .all);
+        each = All-⇒ (λ c g. g .count) cs (r .all);
         finished = finished;
-        whole = λ e. entries ∙ ap (λ (l : List A). map number (notes S l)) (those-rest (S .after last) L (none-left e));
-        moves = all-map (λ c g. g .moves) cs (r .all);
-        came-with = all-map (λ c g. g .came) cs (r .all);
-        positions = all-map (λ c g. g .position) cs (r .all);
-        none-before = ap (λ (p : P). upTo S p L) (finds (S .start) (inl refl)) ∙ none-first S L W;
+        whole = λ e. entries ∙ ap (λ (l : List A). map number (entriesFor S l))
+            (filtered-rest (S .after last) L (none-left e));
+        moves = All-⇒ (λ c g. g .moves) cs (r .all);
+        came-with = All-⇒ (λ c g. g .came) cs (r .all);
+        positions = All-⇒ (λ c g. g .position) cs (r .all);
+        none-before = ap (λ (p : P). upTo S p L) (finds (S .start) (inl refl)) ∙ upTo-start S L W;
         unmoved = r .stays;
       }

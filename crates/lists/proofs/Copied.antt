@@ -8,17 +8,18 @@ use native.Mathlib.Omega.{arith}
 use lib.ListN.{length, getD, set, take, drop}
 use Rattle.lists.specs.Place.{placed}
 
-copied-next : (i : ℕ) (ns old : List ℕ) → i < length ns → i < length old
+copy-suc : (i : ℕ) (ns old : List ℕ) → i < length ns → i < length old
     → set (take i ns ++ drop i old) i (getD ns i 0) ≡ take (suc i) ns ++ drop (suc i) old
-copied-next i [] old h k = absurd (not-suc-le-zero h)
-copied-next i (n ∷ ns) [] h k = absurd (not-suc-le-zero k)
-copied-next zero (n ∷ ns) (x ∷ old) h k = refl
-copied-next (suc i) (n ∷ ns) (x ∷ old) h k = ap (λ (t : List ℕ). n ∷ t) (copied-next i ns old (le-of-suc-le-suc h) (le-of-suc-le-suc k))
+copy-suc i [] old h k = absurd (not-suc-le-zero h)
+copy-suc i (n ∷ ns) [] h k = absurd (not-suc-le-zero k)
+copy-suc zero (n ∷ ns) (x ∷ old) h k = refl
+copy-suc (suc i) (n ∷ ns) (x ∷ old) h k =
+    ap (λ (t : List ℕ). n ∷ t) (copy-suc i ns old (le-of-suc-le-suc h) (le-of-suc-le-suc k))
 
 -- the number at i is stored
-pub copied-more : (i : ℕ) (ns old : List ℕ) → i < length ns → i < length old
+pub copy-turn : (i : ℕ) (ns old : List ℕ) → i < length ns → i < length old
     → set (take i ns ++ drop i old) i (getD ns i 0) ≡ take (i + 1) ns ++ drop (i + 1) old
-copied-more i ns old h k = rw add-one (copied-next i ns old h k)
+copy-turn i ns old h k = rw add-one (copy-suc i ns old h k)
 
-pub placed-front : (ns old : List ℕ) → placed old 0 ns ≡ ns ++ drop (length ns) old
-placed-front ns old = let e : 0 + length ns ≡ length ns = omega arith in ap (λ (k : ℕ). ns ++ drop k old) e
+pub placed-0 : (ns old : List ℕ) → placed old 0 ns ≡ ns ++ drop (length ns) old
+placed-0 ns old = let e : 0 + length ns ≡ length ns = omega arith in ap (λ (k : ℕ). ns ++ drop k old) e

@@ -1,4 +1,4 @@
--- The first element for which a test holds: where one is found, it is a member and the test holds of it; the first of images.
+-- The first element that passes a test is a member that passes it; the first of images.
 use mathlib.Core.Path.{_≡_, refl, sym, ap, subst, _∙_}
 use mathlib.Core.Logic.{inl, inr}
 use mathlib.Core.Bool.{Bool, true, false}
@@ -10,24 +10,25 @@ use Rattle.lists.specs.Pick.{pick}
 use Rattle.lists.specs.Order.{All, In, firstOf}
 use Rattle.lists.proofs.Cases.{pick-case}
 
-pub first-found : {A : Type 0} (f : A → Bool) (x : A) (l : List A) → firstOf f l ≡ some x → In x l × (f x ≡ true)
+pub firstOf-some⁻ : {A : Type 0} (f : A → Bool) (x : A) (l : List A) → firstOf f l ≡ some x → In x l × (f x ≡ true)
 unfolding firstOf
-first-found f x [] e = absurd (let z : _≡_ {A = ℕ} 0 1 = cc in omega arith)
-first-found {A} f x (y ∷ l) e =
+firstOf-some⁻ f x [] e = absurd (let z : _≡_ {A = ℕ} 0 1 = cc in omega arith)
+firstOf-some⁻ {A} f x (y ∷ l) e =
     pick-case (λ (o : Option A). o ≡ some x → In x (y ∷ l) × (f x ≡ true)) (f y) _ _
     (λ t q. let k : y ≡ x = cc in (inl (sym k), subst (λ (z : A). f z ≡ true) k t))
-    (λ t q. let r = first-found f x l q in (inr (r .0), r .1))
+    (λ t q. let r = firstOf-some⁻ f x l q in (inr (r .0), r .1))
     e
 
 -- the first of the images, by a test that agrees
 module _ {A B : Type 0} (h : A → B) (f : A → Bool) (g : B → Bool) where
-  first-by : (t : Bool) (x : A) (o : Option A) (q : Option B) → q ≡ Option·map h o → pick t (some (h x)) q ≡ Option·map h (pick t (some x) o)
-  first-by true x o q e = refl
-  first-by false x o q e = e
+  firstOf-map-∷ : (t : Bool) (x : A) (o : Option A) (q : Option B) → q ≡ Option·map h o
+      → pick t (some (h x)) q ≡ Option·map h (pick t (some x) o)
+  firstOf-map-∷ true x o q e = refl
+  firstOf-map-∷ false x o q e = e
 
-  pub first-map : (l : List A) → All (λ x. f x ≡ g (h x)) l → firstOf g (map h l) ≡ Option·map h (firstOf f l)
+  pub firstOf-map : (l : List A) → All (λ x. f x ≡ g (h x)) l → firstOf g (map h l) ≡ Option·map h (firstOf f l)
   unfolding firstOf
-  first-map [] a = refl
-  first-map (x ∷ l) a =
+  firstOf-map [] a = refl
+  firstOf-map (x ∷ l) a =
       ap (λ (t : Bool). pick t (some (h x)) (firstOf g (map h l))) (sym (a .0))
-      ∙ first-by (f x) x (firstOf f l) (firstOf g (map h l)) (first-map l (a .1))
+      ∙ firstOf-map-∷ (f x) x (firstOf f l) (firstOf g (map h l)) (firstOf-map l (a .1))

@@ -5,10 +5,11 @@ pub mod Between
 pub mod Append
 pub mod Parts
 pub mod Choice
-pub mod Sorting
 pub mod AllParts
 pub mod Chains
 pub mod First
+pub mod Filter
+pub mod Strings
 pub mod Paging
 pub mod Pairs
 pub mod Front
@@ -20,3 +21,9 @@ pub mod PageLoop
 pub mod PageEntries
 pub mod Numbered
 pub mod Calls
+pub mod Tests
+pub mod Place
+pub mod Nth
+pub mod Conjunctions
+pub mod AllAny
+pub mod Filled

@@ -2,6 +2,10 @@ pub mod Pick
 pub mod Ascii
 pub mod Order
 pub mod Place
+pub mod Tests
+pub mod Options
+pub mod Strings
 pub mod Between
 pub mod Paging
 pub mod Calls
+pub mod loops

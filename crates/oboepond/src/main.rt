@@ -1,7 +1,8 @@
-// The program: table.ucm and lines of frames in, the report out. Everything here only moves bytes between the system and the library.
+// The program: table.ucm and lines of frames in, the report out. It only moves bytes between the system and the
+// library.
 use frames::lines::Partial;
 use frames::pages;
-use frames::pages::Listing;
+use frames::pages::ListedSoFar;
 use frames::report;
 use libc::STDIN_FILENO;
 use libc::STDOUT_FILENO;
@@ -12,20 +13,20 @@ ghost use mathlib.Core.Path.{_≡_};
 ghost use Prim.Native.Nat.{_≤_};
 ghost use lib.ListN.{length, take};
 
-// What reading a whole file gives: its bytes, as many as there was room for; or that a read failed.
+// The outcome of reading a whole file: its bytes, as many as there was room for, or a read that failed.
 struct Filled {
     len: usize,
     failed: bool,
 }
 
-// Where reading stands: input goes on, with this held of a line; input has ended, with this held; output failed.
+// The state of reading: the input goes on or has ended, with the line so far, or the output failed.
 enum Reading {
     On(Partial),
     Ended(Partial),
     Failed,
 }
 
-// Writes to standard output. Where that fails, standard error says why, and the program stops.
+// Writes to standard output. If that fails, standard error says why, and the program stops.
 fn show(text: &[u8]) -> bool {
     let written = io::write_all(STDOUT_FILENO, text);
     if !written {
@@ -117,7 +118,8 @@ fn report_piece(
     Reading::On(kept)
 }
 
-// Reads standard input once into `piece`, and shows the report of what came. A read that fails ends the input; standard error says why.
+// Reads standard input once into `piece`, and shows the report of what came. A read that fails ends the input; standard
+// error says why.
 fn read_piece(
     rec: Record,
     states: &[u16],
@@ -152,7 +154,8 @@ fn read_piece(
     )
 }
 
-// Reads standard input to its end. Nothing says that input ends, so turns are counted, from a number that no run uses up.
+// Reads standard input to its end. Nothing says that input ends, so turns are counted, from a number that no run uses
+// up.
 fn read_pieces(
     rec: Record,
     states: &[u16],
@@ -219,7 +222,7 @@ fn show_codes(
 )
     requires { ⌜ 32777 ≤ length (now out) ⌝ }
 {
-    let mut done = Listing {
+    let mut done = ListedSoFar {
         position: Code { bits: 0, len: 0 },
         looked: 0,
         listed: 0,

@@ -65,12 +65,12 @@ number-known endsUnassigned = refl
 number-known (leads n) = rw (lt-leb (16 + n) 3 (omega arith), le-leb 16 (16 + n) (omega arith))
 
 -- cells with the same numbers are the same
-pub cells-back : (l : List Cell) → map cellIn (map cellNumber l) ≡ l
-cells-back [] = refl
-cells-back (c ∷ l) = (λ i. cell-back c i ∷ cells-back l i)
+pub map-cellIn-cellNumber : (l : List Cell) → map cellIn (map cellNumber l) ≡ l
+map-cellIn-cellNumber [] = refl
+map-cellIn-cellNumber (c ∷ l) = (λ i. cell-back c i ∷ map-cellIn-cellNumber l i)
 
 pub numbers-one : (l m : List Cell) → map cellNumber l ≡ map cellNumber m → l ≡ m
-numbers-one l m e = sym (cells-back l) ∙ ap (map cellIn) e ∙ cells-back m
+numbers-one l m e = sym (map-cellIn-cellNumber l) ∙ ap (map cellIn) e ∙ map-cellIn-cellNumber m
 
 -- a code never ends as 0
 pub cell-ends : (c : Cell) (e : ℕ) → cellStep c ≡ Ends e → 1 ≤ e

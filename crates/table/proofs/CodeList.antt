@@ -8,19 +8,22 @@ use native.Mathlib.Nat.{suc-add, zero-add, add-zero, eq-or-lt-of-le}
 use native.Mathlib.Omega.{arith}
 use lib.ListN.{length}
 use Rattle.lists.specs.Pick.{pick}
-use Rattle.lists.specs.Order.{All, Pairs, In, Rising}
-use Rattle.lists.proofs.Order.{all-map, all-in, all-of, map-all, map-pairs, map-in, unique}
-use Rattle.lists.proofs.Append.{all-append, pairs-append, in-left, in-right}
-use Rattle.table.specs.States.{Rows, isEmpty, endKind, within}
+use Rattle.lists.specs.Order.{All, Pairs, In, Rising, filtered}
+use Rattle.lists.proofs.Order.{All-⇒, All-In⁻, All-In⁺, All-map⁺, Pairs-map⁺, In-map⁺, Rising-unique}
+use Rattle.lists.proofs.Append.{All-++⁺, Pairs-++⁺, In-++ˡ, In-++ʳ}
+use Rattle.table.specs.States.{Rows, endKind, within}
+use Rattle.lists.specs.Tests.{isEmpty}
 use Rattle.table.specs.Meaning.{flat, stepsOn, stepsOf}
-use Rattle.table.specs.Codes.{codesOn, scan, codesFrom, allCodes, before, after, packed, nextOf, AllByte}
+use Rattle.table.specs.Codes.{codesOn, scan, codesFrom, allCodes, packed, nextOf, AllByte}
+use Rattle.lists.specs.Strings.{before, after}
 use Rattle.table.specs.TableK.{tableK}
 use Rattle.table.specs.declared.states.Step.{Step}
 use Rattle.table.specs.declared.states.Step.the-variants.{Illegal, Ends, Leads}
 use Rattle.table.specs.declared.codes.Next.the-variants.{Found, Nothing}
 use Rattle.table.proofs.Cuts.{NoEndsZero}
 use Rattle.table.proofs.Depth.{short-code}
-use Rattle.table.proofs.CodeOrder.{before-irrefl, before-trans, before-lt, before-same, after-append, after-low}
+use Rattle.lists.proofs.Filter.{filtered-append}
+use Rattle.lists.proofs.Strings.{before-irrefl, before-trans, before-<, before-∷, after-map-low}
 
 -- the codes of a byte are strings with that byte in front
 abbrev rests : (ℕ → List (List ℕ)) → Step → List (List ℕ)
@@ -54,15 +57,15 @@ module _ (sub : ℕ → List (List ℕ)) (step : Rows) (row : ℕ) where
   pub scan-all : (P : List ℕ → Type 0) → ((b : ℕ) → b < 256 → All P (codesOn sub b (step row b))) → (m b : ℕ) → b + m ≤ 256 → All P (scan sub step row m b)
   unfolding scan
   scan-all P h zero b le = tt
-  scan-all P h (suc m) b le = all-append P (codesOn sub b (step row b)) (scan sub step row m (b + 1)) (h b (omega arith)) (scan-all P h m (b + 1) (omega arith))
+  scan-all P h (suc m) b le = All-++⁺ P (codesOn sub b (step row b)) (scan sub step row m (b + 1)) (h b (omega arith)) (scan-all P h m (b + 1) (omega arith))
 
   in-scan : (a : ℕ) (s : List ℕ) → In s (codesOn sub a (step row a)) → (m b : ℕ) → b ≤ a → a < b + m → In s (scan sub step row m b)
   unfolding scan
   in-scan a s h zero b le lt = absurd (omega arith)
   in-scan a s h (suc m) b le lt =
       ⊎-elim
-      (λ e. in-left s (codesOn sub b (step row b)) (scan sub step row m (b + 1)) (subst (λ (x : ℕ). In s (codesOn sub x (step row x))) (sym e) h))
-      (λ l. in-right s (codesOn sub b (step row b)) (scan sub step row m (b + 1)) (in-scan a s h m (b + 1) (omega arith) (omega arith)))
+      (λ e. In-++ˡ s (codesOn sub b (step row b)) (scan sub step row m (b + 1)) (subst (λ (x : ℕ). In s (codesOn sub x (step row x))) (sym e) h))
+      (λ l. In-++ʳ s (codesOn sub b (step row b)) (scan sub step row m (b + 1)) (in-scan a s h m (b + 1) (omega arith) (omega arith)))
       (eq-or-lt-of-le le)
 
   -- all come after a string with a lower first byte, and after the beginning
@@ -70,16 +73,16 @@ module _ (sub : ℕ → List (List ℕ)) (step : Rows) (row : ℕ) where
   unfolding scan
   scan-above a p zero b h = tt
   scan-above a p (suc m) b h =
-      all-append (λ s. before (a ∷ p) s ≡ true) (codesOn sub b (step row b)) (scan sub step row m (b + 1))
-      (rw (on-rests sub b (step row b)) (map-all (λ s. b ∷ s) (λ s. before (a ∷ p) s ≡ true) (rests sub (step row b)) (all-of (rests sub (step row b)) (λ s i. before-lt a b p s h))))
+      All-++⁺ (λ s. before (a ∷ p) s ≡ true) (codesOn sub b (step row b)) (scan sub step row m (b + 1))
+      (rw (on-rests sub b (step row b)) (All-map⁺ (λ s. b ∷ s) (λ s. before (a ∷ p) s ≡ true) (rests sub (step row b)) (All-In⁺ (rests sub (step row b)) (λ s i. before-< a b p s h))))
       (scan-above a p m (b + 1) (omega arith))
 
   pub scan-start : (m b : ℕ) → All (λ s. before [] s ≡ true) (scan sub step row m b)
   unfolding scan before
   scan-start zero b = tt
   scan-start (suc m) b =
-      all-append (λ s. before [] s ≡ true) (codesOn sub b (step row b)) (scan sub step row m (b + 1))
-      (rw (on-rests sub b (step row b)) (map-all (λ s. b ∷ s) (λ s. before [] s ≡ true) (rests sub (step row b)) (all-of (rests sub (step row b)) (λ s i. refl))))
+      All-++⁺ (λ s. before [] s ≡ true) (codesOn sub b (step row b)) (scan sub step row m (b + 1))
+      (rw (on-rests sub b (step row b)) (All-map⁺ (λ s. b ∷ s) (λ s. before [] s ≡ true) (rests sub (step row b)) (All-In⁺ (rests sub (step row b)) (λ s i. refl))))
       (scan-start m (b + 1))
 
   -- after a string that begins with a, the codes of lower bytes are left out
@@ -88,17 +91,17 @@ module _ (sub : ℕ → List (List ℕ)) (step : Rows) (row : ℕ) where
   scan-low a p zero m b h = rw (zero-add m, sym h, add-zero b)
   scan-low a p (suc k) m b h =
       rw (suc-add k m)
-      (after-append (a ∷ p) (codesOn sub b (step row b)) (scan sub step row (k + m) (b + 1))
-      ∙ rw (on-rests sub b (step row b), after-low a b p (omega arith)) (scan-low a p k m (b + 1) (omega arith)))
+      (filtered-append (before (a ∷ p)) (codesOn sub b (step row b)) (scan sub step row (k + m) (b + 1))
+      ∙ rw (on-rests sub b (step row b), after-map-low a b p (omega arith)) (scan-low a p k m (b + 1) (omega arith)))
 
   rising-scan : ((n : ℕ) → Rising before (sub n)) → (m b : ℕ) → Rising before (scan sub step row m b)
   unfolding scan before
   rising-scan h zero b = tt
   rising-scan h (suc m) b =
-      pairs-append (λ x y. before x y ≡ true) (codesOn sub b (step row b)) (scan sub step row m (b + 1))
-      (rw (on-rests sub b (step row b)) (map-pairs (λ s. b ∷ s) (λ x y. before x y ≡ true) (rests sub (step row b)) (under (step row b))))
+      Pairs-++⁺ (λ x y. before x y ≡ true) (codesOn sub b (step row b)) (scan sub step row m (b + 1))
+      (rw (on-rests sub b (step row b)) (Pairs-map⁺ (λ s. b ∷ s) (λ x y. before x y ≡ true) (rests sub (step row b)) (under (step row b))))
       (rising-scan h m (b + 1))
-      (rw (on-rests sub b (step row b)) (map-all (λ s. b ∷ s) (λ x. All (λ y. before x y ≡ true) (scan sub step row m (b + 1))) (rests sub (step row b)) (all-of (rests sub (step row b)) (λ s i. scan-above b s m (b + 1) (omega arith)))))
+      (rw (on-rests sub b (step row b)) (All-map⁺ (λ s. b ∷ s) (λ x. All (λ y. before x y ≡ true) (scan sub step row m (b + 1))) (rests sub (step row b)) (All-In⁺ (rests sub (step row b)) (λ s i. scan-above b s m (b + 1) (omega arith)))))
     where
       under : (x : Step) → Pairs (λ s t. before (b ∷ s) (b ∷ t) ≡ true) (rests sub x)
       under Illegal = tt
@@ -107,14 +110,14 @@ module _ (sub : ℕ → List (List ℕ)) (step : Rows) (row : ℕ) where
         where
           rises : (l : List (List ℕ)) → Rising before l → Pairs (λ s t. before (b ∷ s) (b ∷ t) ≡ true) l
           rises [] r = tt
-          rises (s ∷ l) r = (all-map (λ t e. before-same b s t ∙ e) l (r .0), rises l (r .1))
+          rises (s ∷ l) r = (All-⇒ (λ t e. before-∷ b s t ∙ e) l (r .0), rises l (r .1))
 
 -- rows of which a byte at a time says the same have the same codes
-pub scan-same : (sub other : ℕ → List (List ℕ)) (step steps : Rows) (row : ℕ) → ((b : ℕ) → b < 256 → codesOn sub b (step row b) ≡ codesOn other b (steps row b))
+pub scan-ext : (sub other : ℕ → List (List ℕ)) (step steps : Rows) (row : ℕ) → ((b : ℕ) → b < 256 → codesOn sub b (step row b) ≡ codesOn other b (steps row b))
     → (m b : ℕ) → b + m ≤ 256 → scan sub step row m b ≡ scan other steps row m b
 unfolding scan
-scan-same sub other step steps row h zero b le = refl
-scan-same sub other step steps row h (suc m) b le = rw (h b (omega arith), scan-same sub other step steps row h m (b + 1) (omega arith))
+scan-ext sub other step steps row h zero b le = refl
+scan-ext sub other step steps row h (suc m) b le = rw (h b (omega arith), scan-ext sub other step steps row h m (b + 1) (omega arith))
 
 -- the complete codes rise strictly
 pub rising-codes : (step : Rows) (f row : ℕ) → Rising before (codesFrom step f row)
@@ -123,7 +126,7 @@ rising-codes step zero row = tt
 rising-codes step (suc f) row = rising-scan (codesFrom step f) step row (rising-codes step f) 256 0
 
 -- a property of codes that goes back from a row led to
-pub codes-by : (step : Rows) (P : ℕ → ℕ → List ℕ → Type 0)
+codes-by : (step : Rows) (P : ℕ → ℕ → List ℕ → Type 0)
     → ((f row b e : ℕ) → b < 256 → step row b ≡ Ends e → P (suc f) row (b ∷ []))
     → ((f row b n : ℕ) (s : List ℕ) → b < 256 → step row b ≡ Leads n → P f n s → P (suc f) row (b ∷ s))
     → (f row : ℕ) → All (P f row) (codesFrom step f row)
@@ -134,7 +137,7 @@ codes-by step P one more (suc f) row = scan-all (codesFrom step f) step row (P (
     go : ((n : ℕ) → All (P f n) (codesFrom step f n)) → (b : ℕ) → b < 256 → (x : Step) → step row b ≡ x → All (P (suc f) row) (codesOn (codesFrom step f) b x)
     go ih b h Illegal q = tt
     go ih b h (Ends e) q = (one f row b e h q, tt)
-    go ih b h (Leads n) q = map-all (λ s. b ∷ s) (P (suc f) row) (codesFrom step f n) (all-map (λ s p. more f row b n s h q p) (codesFrom step f n) (ih n))
+    go ih b h (Leads n) q = All-map⁺ (λ s. b ∷ s) (P (suc f) row) (codesFrom step f n) (All-⇒ (λ s p. more f row b n s h q p) (codesFrom step f n) (ih n))
 
 -- 1 to f bytes
 pub record Bytes (f : ℕ) (s : List ℕ) : Type 0 where
@@ -150,7 +153,7 @@ codes-bytes step =
     (λ f row b n s h q p. record { bytes = (h, p .bytes); some = omega arith; short = omega (arith, p .short) })
 
 -- how a string ends, by what the row says of its first byte
-pub end-kind-at : (step : Rows) (row b : ℕ) (s : List ℕ) (x : Step) → step row b ≡ x
+end-kind-at : (step : Rows) (row b : ℕ) (s : List ℕ) (x : Step) → step row b ≡ x
     → endKind step row (b ∷ s) ≡ elim x [ Illegal ↦ 0 | Ends e ↦ pick (isEmpty s) e 0 | Leads n ↦ endKind step n s ]
 unfolding endKind
 end-kind-at step row b s x q = rw (q, endKind)
@@ -180,7 +183,7 @@ codes-all step (suc f) row (b ∷ s) a le c = in-scan (codesFrom step f) step ro
     go t ih c Illegal q = absurd (c (end-kind-at step row b t Illegal q))
     go [] ih c (Ends e) q = inl refl
     go (a ∷ t) ih c (Ends e) q = absurd (c (end-kind-at step row b (a ∷ t) (Ends e) q))
-    go t ih c (Leads n) q = map-in (λ s. b ∷ s) t (codesFrom step f n) (ih n (λ z. c (end-kind-at step row b t (Leads n) q ∙ z)))
+    go t ih c (Leads n) q = In-map⁺ (λ s. b ∷ s) t (codesFrom step f n) (ih n (λ z. c (end-kind-at step row b t (Leads n) q ∙ z)))
 
 -- where T3 holds the bound of four bytes leaves no complete code out
 pub codes-whole : (step : Rows) (d row : ℕ) (s : List ℕ) → within step d row ≡ true → d ≤ 4 → AllByte s → (endKind step row s ≡ 0 → ⊥) → In s (allCodes step row)
@@ -209,15 +212,15 @@ code-alone step row (b ∷ s) t c d = go (step row b) refl (λ n. code-alone ste
 pub prefix-free : (step : Rows) → NoEndsZero step → (f row : ℕ) (s t : List ℕ) → In s (codesFrom step f row) → In (s ++ t) (codesFrom step f row) → t ≡ []
 prefix-free step nz f row s t i j =
     let all = codes-are-codes step nz f row in
-    code-alone step row s t (all-in (CompleteCode step f row) s (codesFrom step f row) all i .ends) (all-in (CompleteCode step f row) (s ++ t) (codesFrom step f row) all j .ends)
+    code-alone step row s t (All-In⁻ (CompleteCode step f row) s (codesFrom step f row) all i .ends) (All-In⁻ (CompleteCode step f row) (s ++ t) (codesFrom step f row) all j .ends)
 
 -- any rising list of exactly the complete codes of at most four bytes is the list of the complete codes
 pub the-list : (step : Rows) → NoEndsZero step → (row : ℕ) (l : List (List ℕ)) → Rising before l
     → ((s : List ℕ) → In s l → CompleteCode step 4 row s) → ((s : List ℕ) → CompleteCode step 4 row s → In s l) → l ≡ allCodes step row
 the-list step nz row l r f g =
-    unique before before-irrefl before-trans l (allCodes step row) r (rising-codes step 4 row)
+    Rising-unique before before-irrefl before-trans l (allCodes step row) r (rising-codes step 4 row)
     (λ s i. let c = f s i in codes-all step 4 row s (c .bytes) (c .short) (c .ends))
-    (λ s i. g s (all-in (CompleteCode step 4 row) s (allCodes step row) (codes-are-codes step nz 4 row) i))
+    (λ s i. g s (All-In⁻ (CompleteCode step 4 row) s (allCodes step row) (codes-are-codes step nz 4 row) i))
 
 -- rows below the limit lead on to such rows alone
 abbrev pub LeadsInside : (rows : ℕ) → Rows → Type 0
@@ -228,7 +231,7 @@ pub codes-agree : (rows : ℕ) (step steps : Rows) → LeadsInside rows step →
 unfolding codesFrom
 codes-agree rows step steps inside same zero row lt = refl
 codes-agree rows step steps inside same (suc f) row lt =
-    scan-same (codesFrom step f) (codesFrom steps f) step steps row
+    scan-ext (codesFrom step f) (codesFrom steps f) step steps row
     (λ b h. go b (codes-agree rows step steps inside same f) (step row b) (λ n q. inside row b n lt h q) ∙ ap (codesOn (codesFrom steps f) b) (same row b lt h)) 256 0 (omega arith)
   where
     go : (b : ℕ) → ((n : ℕ) → n < rows → codesFrom step f n ≡ codesFrom steps f n) → (x : Step) → ((n : ℕ) → x ≡ Leads n → n < rows) → codesOn (codesFrom step f) b x ≡ codesOn (codesFrom steps f) b x
@@ -241,5 +244,5 @@ k-codes : (length (allCodes (stepsOf tableK) 0) ≡ 7)
     × (nextOf (stepsOf tableK) 0 [] ≡ Found (record { bits = 0x2d000000; len = 1 }))
     × (nextOf (stepsOf tableK) 0 (0x81 ∷ 0x7d ∷ []) ≡ Found (record { bits = 0x81800000; len = 2 }))
     × (nextOf (stepsOf tableK) 0 (0x81 ∷ 0x80 ∷ []) ≡ Nothing)
-unfolding tableK flat stepsOn codesFrom scan after before packed
+unfolding tableK flat stepsOn codesFrom scan filtered before packed
 k-codes = (refl, refl, refl, refl)

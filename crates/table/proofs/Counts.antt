@@ -11,8 +11,10 @@ use Rattle.lists.proofs.Cases.{pick-case}
 use Rattle.table.specs.Limits.{Limits}
 use Rattle.table.specs.Meaning.{Table}
 use Rattle.table.specs.Memory.{recordOf}
-use Rattle.table.specs.Text.{crBefore, onto, linesOf}
-use Rattle.table.specs.Numbers.{numberOf}
+use Rattle.table.specs.Text.{crBefore, linesOf}
+use Rattle.lists.specs.Strings.{onto}
+use Rattle.lists.proofs.Strings.{length-onto}
+use Rattle.table.specs.Numbers.{refusalNumber}
 use Rattle.table.specs.Load.{accepted, refused, loadOf}
 use Rattle.table.specs.FirstLine.{FirstHolds, NeverEnds}
 use Rattle.table.specs.declared.load.Refusal.{Refusal}
@@ -29,20 +31,14 @@ record-counts t = refl
 pub mappings-few : (lim : Limits) (text : List ℕ) (t : Table) → 1 ≤ lim .rows → loadOf lim text ≡ accepted t → length (t .lines) ≤ lim .mappings
 mappings-few lim text t some e = leb-true (length (t .lines)) (lim .mappings) (accepted-keeps-rules lim text t some e .rule1-lines)
 
--- no more lines than bytes
-onto-few : (b n : ℕ) (ls : List (List ℕ)) → length ls ≤ n → length (onto b ls) ≤ suc n
-unfolding onto
-onto-few b n [] h = omega arith
-onto-few b n (l ∷ ls) h = omega arith
-
-pub lines-few : (s : List ℕ) → length (linesOf s) ≤ length s
+lines-few : (s : List ℕ) → length (linesOf s) ≤ length s
 unfolding linesOf
 lines-few [] = omega arith
 lines-few (b ∷ s) =
     let ih = lines-few s in
     pick-case (λ (ls : List (List ℕ)). length ls ≤ suc (length s)) (eqb b 10) ([] ∷ linesOf s) _ (λ t. omega arith)
     (λ t. pick-case (λ (ls : List (List ℕ)). length ls ≤ suc (length s)) (crBefore b s) (linesOf s) (onto b (linesOf s))
-    (λ u. omega arith) (λ u. onto-few b (length s) (linesOf s) ih))
+    (λ u. omega arith) (λ u. length-onto b (length s) (linesOf s) ih))
 
 -- so a refusal names one of them, or the next
 pub refused-within : (lim : Limits) (text : List ℕ) (why : Refusal) (k : ℕ) → loadOf lim text ≡ refused why k → k ≤ length text + 1
@@ -53,7 +49,7 @@ refused-within lim text why k e = go (first-line-lowest lim text why k e)
     go (inr n) = omega (arith, n .counted, lines-few text)
 
 -- every number has at most two digits
-pub numbers-few : (why : Refusal) → numberOf why ≤ 27
+pub numbers-few : (why : Refusal) → refusalNumber why ≤ 27
 numbers-few refusal.MemoryTooSmall = omega arith
 numbers-few refusal.TextTooLong = omega arith
 numbers-few refusal.NoForm = omega arith

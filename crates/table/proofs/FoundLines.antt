@@ -1,4 +1,6 @@
--- The line behind a stored entry, and what the four look-ups answer, by the place they looked at.
+-- What the four look-ups answer, by the place they looked at: the line behind the stored mapping there, or nothing.
+-- code-line, code-nothing      for a code
+-- point-line, point-nothing    for a code point
 use Prim.Native.Nat.{ℕ, _+_, _≤_}
 use native.Mathlib.Omega.{arith}
 use mathlib.Core.Path.{_≡_, refl, sym, ap, _∙_, subst}
@@ -10,18 +12,18 @@ use lib.ListN.{length, take}
 use borrow.Author.Tests.{eqb-true, eqb-false, le-leb, lt-leb, leb-true, leb-false}
 use Rattle.lists.specs.Pick.{pick}
 use Rattle.lists.specs.Order.{All, In, Rising, firstOf}
-use Rattle.lists.proofs.Laws.{clash, not-yes, both-left, both-right}
+use Rattle.lists.proofs.Laws.{clash, ¬true⇒false, and-left, and-right}
 use Rattle.lists.proofs.Cases.{pick-no}
-use Rattle.lists.proofs.Choice.{both-swap}
-use Rattle.lists.proofs.Order.{all-map, all-of, first-none, map-in}
-use Rattle.lists.proofs.First.{first-map}
+use Rattle.lists.proofs.Choice.{and-comm}
+use Rattle.lists.proofs.Order.{All-⇒, All-In⁺, firstOf-none, In-map⁺}
+use Rattle.lists.proofs.First.{firstOf-map}
 use Rattle.table.specs.Limits.{Limits}
 use Rattle.table.specs.Codes.{bytesOf, unpacked}
-use Rattle.table.specs.Meaning.{Line, same, isRead, isWritten, reader, writer}
-use Rattle.table.specs.Entry.{Entry, pointIn, rankIn, extraIn, indicatorIn, lineIn, padded, entryOk, readsEntry, writesEntry, less}
+use Rattle.table.specs.Meaning.{Line, isRead, decidesPoint, reader, writer}
+use Rattle.table.specs.Stored.{Stored, pointIn, rankIn, extraIn, indicatorIn, lineIn, padded, storedOk, storedIsRead, storedDecides, less}
 use Rattle.table.specs.Slices.{slices}
-use Rattle.table.specs.Memory.{entries, entryAt, linesIn}
-use Rattle.table.specs.Search.{readsCode, writesPoint, holdsAt, FirstAt}
+use Rattle.table.specs.Memory.{storedList, storedAt, linesIn}
+use Rattle.table.specs.loops.Search.{readsCode, writesPoint, holdsAt, FirstAt}
 use Rattle.table.specs.Valid.{storeOk, valid}
 use Rattle.table.specs.Lookup.{indicatorOf, asLine, useIn, mappingIn, mappingsIn, readerOf, CodeFound, PointFound}
 use Rattle.table.specs.declared.states.Code.{Code}
@@ -29,25 +31,35 @@ use Rattle.table.specs.declared.valid.Record.{Record}
 use Rattle.table.specs.declared.lookup.Use.the-variants.{RoundTrip, Fallback, Substituted, ReverseFallback}
 use Rattle.table.specs.declared.lookup.Mapping.{Mapping}
 use Rattle.table.specs.declared.lookup.Found.the-variants as found
-use Rattle.table.proofs.LineLaws.{ok-padded, padded-length, three-shift}
-use Rattle.table.proofs.StoreLaws.{Inside, in-entries, holds-at, Reads, reads-is, ok-codes, ok-infos, store-rising, code-only, point-only}
-use Rattle.table.proofs.ValidLaws.{Tested, tested, lines-kept}
+use Rattle.table.proofs.StoredLine.{ok-padded, padded-length}
+use Rattle.table.proofs.StoreLaws.{ok-codes, ok-infos, store-rising, code-only, point-only}
+use Rattle.table.proofs.Finding.{Reads, readsCode⇒Reads}
+use Rattle.table.proofs.Places.{Inside, in-entries, holds-at}
+use Rattle.table.proofs.TestParts.{Tested, tested, lines-formed}
 use Rattle.table.proofs.LookupLaws.{same-codes}
+use Rattle.lists.proofs.Conjunctions.{and-shift}
+use Rattle.lists.specs.Strings.{same}
 
 -- a stored line as it is found is the line itself
 use-line : (rank : ℕ) → indicatorOf (useIn rank) ≡ indicatorIn rank
 use-line rank = go (eqb rank 0) (eqb rank 1) (eqb rank 2)
   where
-    go : (x y z : Bool) → indicatorOf (pick x RoundTrip (pick y ReverseFallback (pick z Fallback Substituted))) ≡ pick x 0 (pick y 3 (pick z 1 2))
+    go : (x y z : Bool)
+        → indicatorOf (pick x RoundTrip (pick y ReverseFallback (pick z Fallback Substituted)))
+        ≡ pick x 0 (pick y 3 (pick z 1 2))
     go true y z = refl
     go false true z = refl
     go false false true = refl
     go false false false = refl
 
-pub mapping-line : (e : Entry) → asLine (mappingIn e) ≡ lineIn e
+mapping-line : (e : Stored) → asLine (mappingIn e) ≡ lineIn e
 unfolding lineIn
 mapping-line e =
-    ap (λ (d : ℕ). record { point = pointIn (e .info); code = unpacked (extraIn (e .info) + 1) (e .bits); indicator = d }) (use-line (rankIn (e .info)))
+    ap (λ (d : ℕ). record {
+      point = pointIn (e .info);
+      code = unpacked (extraIn (e .info) + 1) (e .bits);
+      indicator = d;
+    }) (use-line (rankIn (e .info)))
 
 -- which are read and which are written, by rank
 read-rank : (r : ℕ) → pick (eqb (indicatorIn r) 0) true (eqb (indicatorIn r) 3) ≡ leb r 1
@@ -60,7 +72,9 @@ read-rank r = go (eqb r 0) refl (eqb r 1) refl (eqb r 2)
     go false p false q true = let a = eqb-false r 0 p in let b = eqb-false r 1 q in sym (lt-leb r 1 (omega arith))
     go false p false q false = let a = eqb-false r 0 p in let b = eqb-false r 1 q in sym (lt-leb r 1 (omega arith))
 
-write-rank : (r : ℕ) → pick (eqb (indicatorIn r) 0) true (pick (eqb (indicatorIn r) 1) true (eqb (indicatorIn r) 2)) ≡ pick (eqb r 1) false true
+write-rank : (r : ℕ)
+    → pick (eqb (indicatorIn r) 0) true (pick (eqb (indicatorIn r) 1) true (eqb (indicatorIn r) 2))
+    ≡ pick (eqb r 1) false true
 write-rank r = go (eqb r 0) refl (eqb r 1) refl (eqb r 2)
   where
     digit : Bool → Bool → Bool → ℕ
@@ -74,49 +88,53 @@ write-rank r = go (eqb r 0) refl (eqb r 1) refl (eqb r 2)
     go false p false q true = refl
     go false p false q false = refl
 
-module _ (e : Entry) where
-  line-read : isRead (lineIn e) ≡ readsEntry e
+module _ (e : Stored) where
+  line-read : isRead (lineIn e) ≡ storedIsRead e
   unfolding lineIn
   line-read = read-rank (rankIn (e .info))
 
-  line-written : isWritten (lineIn e) ≡ writesEntry e
+  line-written : decidesPoint (lineIn e) ≡ storedDecides e
   unfolding lineIn
   line-written = write-rank (rankIn (e .info))
 
-  -- an entry of the form reads a code where its line does
-  reads-line : (c : Code) → entryOk e ≡ true → padded (c .len) (c .bits) ≡ true
+  -- a stored mapping of the form reads a code where its line does
+  reads-line : (c : Code) → storedOk e ≡ true → padded (c .len) (c .bits) ≡ true
       → readsCode (c .bits) (c .len) e ≡ pick (isRead (lineIn e)) (same (lineIn e .code) (bytesOf c)) false
   unfolding readsCode lineIn
   reads-line c ok p =
-      three-shift (readsEntry e) (eqb (e .bits) (c .bits)) (eqb (extraIn (e .info) + 1) (c .len))
-      ∙ (λ i. pick (sym line-read i) (sym (same-codes (record { bits = e .bits; len = extraIn (e .info) + 1 }) c (ok-padded e ok) p) i) false)
+      and-shift (storedIsRead e) (eqb (e .bits) (c .bits)) (eqb (extraIn (e .info) + 1) (c .len))
+      ∙ (λ i. pick (sym line-read i)
+      (sym (same-codes (record { bits = e .bits; len = extraIn (e .info) + 1 }) c (ok-padded e ok) p) i) false)
 
-  writes-line : (point : ℕ) → writesPoint point e ≡ pick (isWritten (lineIn e)) (eqb (lineIn e .point) point) false
+  writes-line : (point : ℕ) → writesPoint point e ≡ pick (decidesPoint (lineIn e)) (eqb (lineIn e .point) point) false
   unfolding writesPoint lineIn
   writes-line point =
-      both-swap (eqb (pointIn (e .info)) point) (writesEntry e)
+      and-comm (eqb (pointIn (e .info)) point) (storedDecides e)
       ∙ ap (λ (t : Bool). pick t (eqb (pointIn (e .info)) point) false) (sym line-written)
 
--- the table's reader and writer, by the entries
-module _ (es : List Entry) where
-  reader-is : All (λ e. entryOk e ≡ true) es → (c : Code) → readerOf c (map lineIn es) ≡ Option·map lineIn (firstOf (readsCode (c .bits) (c .len)) es)
+-- the table's reader and writer, by the stored mappings
+module _ (es : List Stored) where
+  reader-is : All (λ e. storedOk e ≡ true) es
+      → (c : Code)
+      → readerOf c (map lineIn es) ≡ Option·map lineIn (firstOf (readsCode (c .bits) (c .len)) es)
   reader-is oks c = go (padded (c .len) (c .bits)) refl
     where
       go : (t : Bool) → padded (c .len) (c .bits) ≡ t
-          → pick t (reader (bytesOf c) (map lineIn es)) none ≡ Option·map lineIn (firstOf (readsCode (c .bits) (c .len)) es)
+          → pick t (reader (bytesOf c) (map lineIn es)) none
+          ≡ Option·map lineIn (firstOf (readsCode (c .bits) (c .len)) es)
       go true p =
-          first-map lineIn (readsCode (c .bits) (c .len)) (λ l. pick (isRead l) (same (l .code) (bytesOf c)) false) es
-          (all-map (λ e ok. reads-line e c ok p) es oks)
+          firstOf-map lineIn (readsCode (c .bits) (c .len)) (λ l. pick (isRead l) (same (l .code) (bytesOf c)) false) es
+          (All-⇒ (λ e ok. reads-line e c ok p) es oks)
       go false p =
-          ap (Option·map lineIn) (sym (first-none (readsCode (c .bits) (c .len)) es
-          (all-map (λ e ok. not-yes (readsCode (c .bits) (c .len) e) (λ q.
-          let w = reads-is (c .bits) (c .len) e q in
+          ap (Option·map lineIn) (sym (firstOf-none (readsCode (c .bits) (c .len)) es
+          (All-⇒ (λ e ok. ¬true⇒false (readsCode (c .bits) (c .len) e) (λ q.
+          let w = readsCode⇒Reads (c .bits) (c .len) e q in
           clash ((λ i. padded (sym (w .its-len) i) (sym (w .its-code) i)) ∙ ok-padded e ok) p)) es oks)))
 
   writer-is : (point : ℕ) → writer point (map lineIn es) ≡ Option·map lineIn (firstOf (writesPoint point) es)
   writer-is point =
-      first-map lineIn (writesPoint point) (λ l. pick (isWritten l) (eqb (l .point) point) false) es
-      (all-of es (λ e i. writes-line e point))
+      firstOf-map lineIn (writesPoint point) (λ l. pick (decidesPoint l) (eqb (l .point) point) false) es
+      (All-In⁺ es (λ e i. writes-line e point))
 
 -- nothing is no line
 no-mapping : (A : Type 0) (m : Mapping) → found.Nothing ≡ found.Line m → A
@@ -126,52 +144,57 @@ module _ (rec : Record) (codes infos : List ℕ) where
   abbrev n : ℕ
   n = rec .mappings
 
-  abbrev es : List Entry
-  es = entries (take n codes) (take n infos)
+  abbrev es : List Stored
+  es = storedList (take n codes) (take n infos)
 
-  stored-in : (at : ℕ) → Inside n codes infos at → In (mappingIn (entryAt codes infos at)) (mappingsIn rec codes infos)
+  stored-in : (at : ℕ) → Inside n codes infos at → In (mappingIn (storedAt codes infos at)) (mappingsIn rec codes infos)
   unfolding mappingsIn
-  stored-in at w = map-in mappingIn (entryAt codes infos at) es (in-entries n codes infos at w)
+  stored-in at w = In-map⁺ mappingIn (storedAt codes infos at) es (in-entries n codes infos at w)
 
   module _ (lim : Limits) (states order : List ℕ) (ok : valid lim rec (slices states codes infos order) ≡ true) where
     passed : Tested lim rec (slices states codes infos order)
     passed = tested lim rec (slices states codes infos order) ok
 
-    each-formed : All (λ e. entryOk e ≡ true) es
-    each-formed = all-map (λ e k. k .formed) es (lines-kept lim rec (slices states codes infos order) passed)
-
-    reader-held : (c : Code) → readerOf c (linesIn rec codes infos) ≡ Option·map lineIn (firstOf (readsCode (c .bits) (c .len)) es)
+    reader-held : (c : Code)
+        → readerOf c (linesIn rec codes infos) ≡ Option·map lineIn (firstOf (readsCode (c .bits) (c .len)) es)
     unfolding linesIn
-    reader-held = reader-is es each-formed
+    reader-held = reader-is es (lines-formed lim rec (slices states codes infos order) passed)
 
-  writer-held : (point : ℕ) → writer point (linesIn rec codes infos) ≡ Option·map lineIn (firstOf (writesPoint point) es)
+  writer-held : (point : ℕ)
+      → writer point (linesIn rec codes infos) ≡ Option·map lineIn (firstOf (writesPoint point) es)
   unfolding linesIn
   writer-held = writer-is es
 
-  -- FOR A CODE
+  -- ## For a code
   module _ (c : Code) (at : ℕ) where
-    abbrev here : Entry
-    here = entryAt codes infos at
+    abbrev here : Stored
+    here = storedAt codes infos at
 
     -- the line at a place reads it
-    pub code-line : holdsAt (readsCode (c .bits) (c .len)) n codes infos at ≡ true → CodeFound rec codes infos c (found.Line (mappingIn here))
+    pub code-line : holdsAt (readsCode (c .bits) (c .len)) n codes infos at ≡ true
+        → CodeFound rec codes infos c (found.Line (mappingIn here))
     unfolding lineIn
     code-line h =
         let w = holds-at (readsCode (c .bits) (c .len)) n codes infos at h in
-        let r = reads-is (c .bits) (c .len) here (w .1) in
+        let r = readsCode⇒Reads (c .bits) (c .len) here (w .1) in
         record {
           on-valid = λ lim states order ok.
               ap some (mapping-line here)
               ∙ sym (reader-held lim states order ok c
-              ∙ ap (Option·map lineIn) (code-only (lim .mappings) n codes infos order (passed lim states order ok .store-ok) (c .bits) (c .len) at h));
+              ∙ ap (Option·map lineIn) (code-only (lim .mappings) n codes infos order
+              (passed lim states order ok .store-ok) (c .bits) (c .len) at h));
           on-any = λ m e. any-code r (w .0) m e;
         }
       where
-        any-code : Reads (c .bits) (c .len) here → Inside n codes infos at → (m : Mapping) → found.Line (mappingIn here) ≡ found.Line m
+        any-code : Reads (c .bits) (c .len) here
+            → Inside n codes infos at
+            → (m : Mapping)
+            → found.Line (mappingIn here) ≡ found.Line m
             → In m (mappingsIn rec codes infos) × (isRead (asLine m) ≡ true) × (m .code ≡ c)
         any-code r w m e =
             let k : mappingIn here ≡ m = cc in
-            let reads : isRead (asLine (mappingIn here)) ≡ true = ap isRead (mapping-line here) ∙ line-read here ∙ le-leb (rankIn (here .info)) 1 (r .its-rank) in
+            let reads : isRead (asLine (mappingIn here)) ≡ true =
+            ap isRead (mapping-line here) ∙ line-read here ∙ le-leb (rankIn (here .info)) 1 (r .its-rank) in
             let code : mappingIn here .code ≡ c = (λ i. record { bits = r .its-code i; len = r .its-len i }) in (
               subst (λ (x : Mapping). In x (mappingsIn rec codes infos)) k (stored-in at w),
               subst (λ (x : Mapping). isRead (asLine x) ≡ true) k reads,
@@ -179,7 +202,8 @@ module _ (rec : Record) (codes infos : List ℕ) where
             )
 
     -- the one at the place that the search gives does not
-    pub code-nothing : (Rising less es → n ≤ length codes → n ≤ length infos → c .len ≤ 4 → FirstAt (readsCode (c .bits) (c .len)) n codes infos at)
+    pub code-nothing : (Rising less es → n ≤ length codes → n ≤ length infos → c .len ≤ 4
+        → FirstAt (readsCode (c .bits) (c .len)) n codes infos at)
         → holdsAt (readsCode (c .bits) (c .len)) n codes infos at ≡ false → CodeFound rec codes infos c found.Nothing
     code-nothing first h = record {
       on-valid = λ lim states order ok. sym (unread lim states order ok (leb (c .len) 4) refl);
@@ -191,47 +215,58 @@ module _ (rec : Record) (codes infos : List ℕ) where
         unread lim states order ok true p =
             let st = passed lim states order ok .store-ok in
             let e =
-            first (store-rising (lim .mappings) n codes infos order st) (ok-codes (lim .mappings) n codes infos order st) (ok-infos (lim .mappings) n codes infos order st) (leb-true (c .len) 4 p) in
+            first (store-rising (lim .mappings) n codes infos order st)
+            (ok-codes (lim .mappings) n codes infos order st) (ok-infos (lim .mappings) n codes infos order st)
+            (leb-true (c .len) 4 p) in
             reader-held lim states order ok c
-            ∙ ap (Option·map lineIn) (e ∙ pick-no (holdsAt (readsCode (c .bits) (c .len)) n codes infos at) (some here) none h)
+            ∙ ap (Option·map lineIn) (e
+            ∙ pick-no (holdsAt (readsCode (c .bits) (c .len)) n codes infos at) (some here) none h)
         unread lim states order ok false p =
             pick-no (padded (c .len) (c .bits)) (reader (bytesOf c) (linesIn rec codes infos)) none
-            (not-yes (padded (c .len) (c .bits)) (λ q. let a = leb-false (c .len) 4 p in omega (arith, padded-length (c .len) (c .bits) q .1)))
+            (¬true⇒false (padded (c .len) (c .bits))
+            (λ q. let a = leb-false (c .len) 4 p in omega (arith, padded-length (c .len) (c .bits) q .1)))
 
-  -- FOR A CODE POINT
+  -- ## For a code point
   module _ (order : List ℕ) (point at : ℕ) where
-    abbrev there : Entry
-    there = entryAt codes infos at
+    abbrev there : Stored
+    there = storedAt codes infos at
 
     -- the line at a place says what becomes of it
-    pub point-line : holdsAt (writesPoint point) n codes infos at ≡ true → PointFound rec codes infos order point (found.Line (mappingIn there))
+    pub point-line : holdsAt (writesPoint point) n codes infos at ≡ true
+        → PointFound rec codes infos order point (found.Line (mappingIn there))
     point-line h =
         let w = holds-at (writesPoint point) n codes infos at h in
         record {
           on-valid = λ lim states ok.
               ap some (mapping-line there)
-              ∙ sym (writer-held point ∙ ap (Option·map lineIn) (point-only (lim .mappings) n codes infos order (passed lim states order ok .store-ok) point at h));
+              ∙ sym (writer-held point ∙ ap (Option·map lineIn)
+              (point-only (lim .mappings) n codes infos order (passed lim states order ok .store-ok) point at h));
           on-any = λ m e. any-point (sym (writes-line there point) ∙ w .1) (w .0) m e;
         }
       where
-        any-point : pick (isWritten (lineIn there)) (eqb (lineIn there .point) point) false ≡ true → Inside n codes infos at
+        any-point : pick (decidesPoint (lineIn there)) (eqb (lineIn there .point) point) false ≡ true
+            → Inside n codes infos at
             → (m : Mapping) → found.Line (mappingIn there) ≡ found.Line m
-            → In m (mappingsIn rec codes infos) × (isWritten (asLine m) ≡ true) × (m .point ≡ point)
+            → In m (mappingsIn rec codes infos) × (decidesPoint (asLine m) ≡ true) × (m .point ≡ point)
         any-point r w m e =
             let k : mappingIn there ≡ m = cc in
             let j : lineIn there ≡ asLine m = sym (mapping-line there) ∙ ap asLine k in (
               subst (λ (x : Mapping). In x (mappingsIn rec codes infos)) k (stored-in at w),
-              subst (λ (x : Line). isWritten x ≡ true) j (both-left (isWritten (lineIn there)) _ r),
-              subst (λ (x : Line). x .point ≡ point) j (eqb-true (lineIn there .point) point (both-right (isWritten (lineIn there)) _ r)),
+              subst (λ (x : Line). decidesPoint x ≡ true) j (and-left (decidesPoint (lineIn there)) _ r),
+              subst (λ (x : Line). x .point ≡ point) j
+                  (eqb-true (lineIn there .point) point (and-right (decidesPoint (lineIn there)) _ r)),
             )
 
     -- the one at the place that the search gives does not
-    pub point-nothing : ((limit : ℕ) → storeOk limit n codes infos order ≡ true → FirstAt (writesPoint point) n codes infos at)
+    pub point-nothing : ((limit : ℕ) → storeOk limit n codes infos order ≡ true
+        → FirstAt (writesPoint point) n codes infos at)
         → holdsAt (writesPoint point) n codes infos at ≡ false → PointFound rec codes infos order point found.Nothing
     point-nothing first h = record {
       on-valid = λ lim states ok.
           sym (writer-held point
           ∙ ap (Option·map lineIn) (first (lim .mappings) (passed lim states order ok .store-ok)
           ∙ pick-no (holdsAt (writesPoint point) n codes infos at) (some there) none h));
-      on-any = λ m e. no-mapping (In m (mappingsIn rec codes infos) × (isWritten (asLine m) ≡ true) × (m .point ≡ point)) m e;
+      on-any =
+          λ m e. no-mapping (In m (mappingsIn rec codes infos) × (decidesPoint (asLine m) ≡ true)
+          × (m .point ≡ point)) m e;
     }

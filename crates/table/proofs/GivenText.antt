@@ -9,18 +9,17 @@ use lib.Dec.{ltb}
 use lib.ListN.{length}
 use Rattle.lists.specs.Pick.{pick}
 use Rattle.table.specs.Limits.{Limits, needed}
-use Rattle.table.specs.Slices.{Slices}
-use Rattle.table.specs.Numbers.{answerNumber}
-use Rattle.table.specs.Load.{Outcome, accepted, refused, Given, untouched, read, Small, loadOf, given, givenNumber, loadedBy, leftIn, given}
+use Rattle.table.specs.Slices.{Slices, Lent}
+use Rattle.table.specs.Numbers.{answerNumber, n1}
+use Rattle.table.specs.Load.{Outcome, accepted, refused, Given, untouched, read, loadOf, given, givenNumber, loadedBy, leftIn}
 use Rattle.lists.proofs.Cases.{pick-no}
-use Rattle.table.specs.Progress.{Lent}
 use Rattle.table.specs.declared.load.Refusal.the-variants as refusal
 use Rattle.table.specs.declared.load.Loaded.{Loaded}
 use Rattle.table.proofs.RunSteps.{given-read}
 
 pub given-loaded : (lim : Limits) (text : List ℕ) (m : Slices) (x : Outcome) → given lim text m ≡ read x → loadOf lim text ≡ x
 unfolding given
-given-loaded lim text m x e = go (Small lim (length (m .states)) (length (m .codes)) (length (m .infos)) (length (m .order))) (ltb (lim .text) (length text)) e
+given-loaded lim text m x e = go (n1 lim (length (m .states)) (length (m .codes)) (length (m .infos)) (length (m .order))) (ltb (lim .text) (length text)) e
   where
     go : (a b : Bool) → pick a (untouched refusal.MemoryTooSmall) (pick b (untouched refusal.TextTooLong) (read (loadOf lim text))) ≡ read x → loadOf lim text ≡ x
     go true b e = absurd (let z : _≡_ {A = ℕ} 0 1 = cc in omega arith)
@@ -48,7 +47,7 @@ pub given-lent : (lim : Limits) (text : List ℕ) (old : Slices) → Lent lim ol
     → given lim text old ≡ read (loadOf lim text)
 given-lent lim text old h few = given-read lim text old long few
   where
-    long : Small lim (length (old .states)) (length (old .codes)) (length (old .infos)) (length (old .order)) ≡ false
+    long : n1 lim (length (old .states)) (length (old .codes)) (length (old .infos)) (length (old .order)) ≡ false
     long =
         pick-no (ltb (length (old .states)) (needed lim)) _ _ (le-ltb (length (old .states)) (needed lim) (h .states-long))
         ∙ pick-no (ltb (length (old .codes)) (lim .mappings)) _ _ (le-ltb (length (old .codes)) (lim .mappings) (h .codes-long))

@@ -1,5 +1,5 @@
 -- Lines before CHARMAP: a line of the grammar is read as its key and value, as blank or as CHARMAP, and what is read is such a line.
-use Prim.Native.Nat.{ℕ, suc, _+_, _-_}
+use Prim.Native.Nat.{ℕ, _+_, _-_}
 use mathlib.Core.Path.{_≡_, refl, sym, ap, _∙_, subst}
 use mathlib.Core.Logic.{inl, inr}
 use mathlib.Core.List.{List, [], _∷_, _++_, append-assoc}
@@ -7,21 +7,21 @@ use mathlib.Core.Bool.{Bool, true, false}
 use native.Mathlib.Omega.{arith}
 use native.Mathlib.Nat.{add-zero}
 use lib.ListN.{length, take, drop}
-use lib.Seq.{take-at, drop-append-add}
 use lib.Dec.{ltb, leb, eqb}
 use borrow.Author.Tests.{lt-leb, le-ltb, ne-eqb, eqb-true, eqb-false, ltb-false, leb-false}
 use Rattle.lists.specs.Order.{All}
 use Rattle.lists.specs.Ascii.{ascii}
 use Rattle.lists.proofs.Laws.{clash}
 use Rattle.lists.proofs.Cases.{pick-case}
+use Rattle.lists.proofs.Parts.{+-suc-right, take-drop-++, drop-suc-++, drop-+}
 use Rattle.table.specs.Text.{byteOf, skipAt, endsAt, flipped, foreign, contentEnd, isCharmap}
-use Rattle.table.specs.Header.{keyByte, keyEnd, keyOf, valueOf, keyLine, keyedLine, lineAt, lineOf}
+use Rattle.table.specs.Header.{keyByte, keyEnd, keyOf, valueOf, keyLine, keyedLine, headerLineAt, headerLineOf}
 use Rattle.table.specs.Grammar.{Token, BlankLine, CharmapLine, KeyByte, Outside, Content, Pair, KeyLine}
 use Rattle.table.specs.declared.text.Place.{Place}
 use Rattle.table.specs.declared.text.Place.the-variants.{At, No}
-use Rattle.table.specs.declared.header.Line.{Line}
-use Rattle.table.specs.declared.header.Line.the-variants.{NoForm, Blank, Charmap, Known}
-use Rattle.table.proofs.Tokens.{byte-here, past, at-byte, ends-here, token-here, token-made, ends-closed, ends-written}
+use Rattle.table.specs.declared.header.HeaderLine.{HeaderLine}
+use Rattle.table.specs.declared.header.HeaderLine.the-variants.{NoForm, Blank, Charmap, Known}
+use Rattle.table.proofs.Tokens.{drop⇒byteOf, at-byte, drop⇒endsAt, Token⇒skipAt, drop⇒Token, Closes⇒endsAt, endsAt⇒Closes}
 use Rattle.table.proofs.WordLines.{charmap-reads, charmap-written}
 
 -- ## A line of the grammar is read as what it is
@@ -31,13 +31,10 @@ unfolding keyByte
 key-yes b k =
     rw (le-ltb b 33 (k .from), lt-leb 127 b (k .to), ne-eqb b 60 (k .no-open), ne-eqb b 62 (k .no-close), ne-eqb b 35 (k .no-hash))
 
-pub one-more : (at n : ℕ) → at + suc n ≡ at + 1 + n
-one-more at n = omega arith
-
 key-reads : (at : ℕ) (key r : List ℕ) → All KeyByte key → keyEnd at (key ++ (62 ∷ r)) ≡ At (at + length key)
 unfolding keyEnd
 key-reads at [] r a = rw (add-zero at)
-key-reads at (b ∷ key) r a = rw (ne-eqb b 62 (a .0 .no-close), key-yes b (a .0), one-more at (length key)) (key-reads (at + 1) key r (a .1))
+key-reads at (b ∷ key) r a = rw (ne-eqb b 62 (a .0 .no-close), key-yes b (a .0), +-suc-right at (length key)) (key-reads (at + 1) key r (a .1))
 
 -- content ends behind the value
 content-reads : (q : Bool) (at : ℕ) (v r : List ℕ) → Content q v r → contentEnd q at (v ++ r) ≡ At (at + length v)
@@ -45,38 +42,28 @@ unfolding contentEnd flipped foreign
 content-reads true at [] r c = rw (c, add-zero at)
 content-reads false at [] r (inl c) = rw (c, add-zero at)
 content-reads false at [] r (inr (text, c)) = rw (c, add-zero at)
-content-reads true at (b ∷ v) r (inl (k, c)) = rw (k, one-more at (length v)) (content-reads false (at + 1) v r c)
-content-reads true at (b ∷ v) r (inr (n, c)) = rw (ne-eqb b 34 n, one-more at (length v)) (content-reads true (at + 1) v r c)
-content-reads false at (b ∷ v) r (inl (k, c)) = rw (k, one-more at (length v)) (content-reads true (at + 1) v r c)
+content-reads true at (b ∷ v) r (inl (k, c)) = rw (k, +-suc-right at (length v)) (content-reads false (at + 1) v r c)
+content-reads true at (b ∷ v) r (inr (n, c)) = rw (ne-eqb b 34 n, +-suc-right at (length v)) (content-reads true (at + 1) v r c)
+content-reads false at (b ∷ v) r (inl (k, c)) = rw (k, +-suc-right at (length v)) (content-reads true (at + 1) v r c)
 content-reads false at (b ∷ v) r (inr (o, c)) =
-    rw (ne-eqb b 35 (o .no-hash), ne-eqb b 13 (o .no-cr), lt-leb 128 b (o .low), ne-eqb b 34 (o .no-quote), one-more at (length v))
+    rw (ne-eqb b 35 (o .no-hash), ne-eqb b 13 (o .no-cr), lt-leb 128 b (o .low), ne-eqb b 34 (o .no-quote), +-suc-right at (length v))
     (content-reads false (at + 1) v r c)
-
--- a part of the line from one place to another
-pub part-of : (s : List ℕ) (at e : ℕ) (a b : List ℕ) → drop at s ≡ a ++ b → e ≡ at + length a → take (e - at) (drop at s) ≡ a
-part-of s at e a b h k = let n : length a ≡ e - at = omega arith in ap (λ (l : List ℕ). take (e - at) l) h ∙ take-at a b (e - at) n
-
--- and what lies behind the byte after it
-pub behind-part : (s : List ℕ) (at e : ℕ) (a b : List ℕ) → drop at s ≡ a ++ b → e ≡ at + length a → drop (e + 1) s ≡ drop 1 b
-behind-part s at e a b h k =
-    let n : e + 1 ≡ at + (length a + 1) = omega arith in
-    ap (λ (x : ℕ). drop x s) n ∙ past s at (length a + 1) (a ++ b) h ∙ drop-append-add a b 1
 
 known-at : (s : List ℕ) (p e z : ℕ) (key v : List ℕ) → endsAt s p ≡ false → byteOf s p ≡ 60 → keyEnd (p + 1) (drop (p + 1) s) ≡ At e
     → eqb (p + 1) e ≡ false → take (e - (p + 1)) (drop (p + 1) s) ≡ key → contentEnd false (e + 1) (drop (e + 1) s) ≡ At z
-    → take (z - (e + 1)) (drop (e + 1) s) ≡ v → lineAt s p ≡ Known (keyOf key) (valueOf (keyOf key) v) (e + 1) z
-unfolding lineAt keyedLine keyLine
+    → take (z - (e + 1)) (drop (e + 1) s) ≡ v → headerLineAt s p ≡ Known (keyOf key) (valueOf (keyOf key) v) (e + 1) z
+unfolding headerLineAt keyedLine keyLine
 known-at s p e z key v a b c d f g i = rw (a, b, c, d, f, g, i)
 
 -- what is read: the key, the value, and where the value stands
-pub record Told (p : Pair) (s : List ℕ) : Type 0 where
+pub record KeyLineRead (p : Pair) (s : List ℕ) : Type 0 where
   pub from : ℕ
   pub to : ℕ
-  pub line : lineOf s ≡ Known (keyOf (p .key)) (valueOf (keyOf (p .key)) (p .value)) from to
+  pub line : headerLineOf s ≡ Known (keyOf (p .key)) (valueOf (keyOf (p .key)) (p .value)) from to
   pub part : take (to - from) (drop from s) ≡ p .value
 
-pub key-line-reads : (p : Pair) (s : List ℕ) → KeyLine p s → Told p s
-unfolding lineOf
+pub key-line-reads : (p : Pair) (s : List ℕ) → KeyLine p s → KeyLineRead p s
+unfolding headerLineOf
 key-line-reads p s l =
     let at : ℕ = skipAt s 0 in
     let key : List ℕ = p .key in
@@ -85,30 +72,30 @@ key-line-reads p s l =
     let e : ℕ = at + 1 + length key in
     let z : ℕ = e + 1 + length (p .value) in
     let w : List ℕ = ascii "<" ++ (key ++ ascii ">") in
-    let h : drop at s ≡ t = token-here w s r (refl, refl) (l .opens) s 0 refl ∙ ap (λ (x : List ℕ). 60 ∷ x) (append-assoc key (62 ∷ []) r) in
-    let h1 : drop (at + 1) s ≡ key ++ (62 ∷ r) = past s at 1 t h in
-    let h2 : drop (e + 1) s ≡ r = behind-part s (at + 1) e key (62 ∷ r) h1 refl in
-    let i : take (z - (e + 1)) (drop (e + 1) s) ≡ p .value = part-of s (e + 1) z (p .value) (l .tail) h2 refl in
+    let h : drop at s ≡ t = Token⇒skipAt w s r (refl, refl) (l .opens) s 0 refl ∙ ap (λ (x : List ℕ). 60 ∷ x) (append-assoc key (62 ∷ []) r) in
+    let h1 : drop (at + 1) s ≡ key ++ (62 ∷ r) = drop-+ s at 1 t h in
+    let h2 : drop (e + 1) s ≡ r = drop-suc-++ s (at + 1) e key (62 ∷ r) h1 refl in
+    let i : take (z - (e + 1)) (drop (e + 1) s) ≡ p .value = take-drop-++ s (e + 1) z (p .value) (l .tail) h2 refl in
     record {
       from = e + 1;
       to = z;
-      line = known-at s at e z key (p .value) (ends-here s at t h) (byte-here s at t h)
+      line = known-at s at e z key (p .value) (drop⇒endsAt s at t h) (drop⇒byteOf s at t h)
           (ap (keyEnd (at + 1)) h1 ∙ key-reads (at + 1) key r (l .bytes))
-          (ne-eqb (at + 1) e (λ x. omega (arith, l .some))) (part-of s (at + 1) e key (62 ∷ r) h1 refl)
+          (ne-eqb (at + 1) e (λ x. omega (arith, l .some))) (take-drop-++ s (at + 1) e key (62 ∷ r) h1 refl)
           (ap (contentEnd false (e + 1)) h2 ∙ content-reads false (e + 1) (p .value) (l .tail) (l .content)) i;
       part = i;
     }
 
-pub blank-line-reads : (s : List ℕ) → BlankLine s → lineOf s ≡ Blank
-unfolding lineOf lineAt
-blank-line-reads s c = rw (ends-closed s 0 s refl c)
+pub blank-line-reads : (s : List ℕ) → BlankLine s → headerLineOf s ≡ Blank
+unfolding headerLineOf headerLineAt
+blank-line-reads s c = rw (Closes⇒endsAt s 0 s refl c)
 
-pub charmap-line-reads : (s : List ℕ) → CharmapLine s → lineOf s ≡ Charmap
-unfolding lineOf lineAt
+pub charmap-line-reads : (s : List ℕ) → CharmapLine s → headerLineOf s ≡ Charmap
+unfolding headerLineOf headerLineAt
 charmap-line-reads s c =
     let p : ℕ = skipAt s 0 in
-    let h : drop p s ≡ ascii "CHARMAP" ++ c .0 = token-here (ascii "CHARMAP") s (c .0) (refl, refl) (c .1) s 0 refl in
-    rw (ends-here s p (ascii "CHARMAP" ++ c .0) h, byte-here s p (ascii "CHARMAP" ++ c .0) h, charmap-reads s 0 s refl c)
+    let h : drop p s ≡ ascii "CHARMAP" ++ c .0 = Token⇒skipAt (ascii "CHARMAP") s (c .0) (refl, refl) (c .1) s 0 refl in
+    rw (drop⇒endsAt s p (ascii "CHARMAP" ++ c .0) h, drop⇒byteOf s p (ascii "CHARMAP" ++ c .0) h, charmap-reads s 0 s refl c)
 
 -- ## And back: what is read is such a line
 
@@ -217,7 +204,7 @@ content-written false at (b ∷ l) =
     P x = ValuedOf false at (b ∷ l) x
 
 -- what the reader's answer says of a line
-abbrev pub LineMeans : List ℕ → Line → Type 0
+abbrev pub LineMeans : List ℕ → HeaderLine → Type 0
 LineMeans s NoForm = Unit {0}
 LineMeans s Blank = BlankLine s
 LineMeans s Charmap = CharmapLine s
@@ -235,11 +222,11 @@ module _ (s : List ℕ) (at : ℕ) (opens : drop (skipAt s 0) s ≡ 60 ∷ drop 
       let p : Pair = record { key = key; value = v .value } in
       let w : List ℕ = ascii "<" ++ (key ++ ascii ">") in
       let r : List ℕ = drop (e + 1) s in
-      let kk : take (e - at) (drop at s) ≡ key = part-of s at e key (62 ∷ h .rest) (h .whole) (h .place) in
-      let vv : take (z - (e + 1)) r ≡ v .value = part-of s (e + 1) z (v .value) (v .tail) (v .whole) (v .place) in
-      let i : h .rest ≡ r = sym (behind-part s at e key (62 ∷ h .rest) (h .whole) (h .place)) in
+      let kk : take (e - at) (drop at s) ≡ key = take-drop-++ s at e key (62 ∷ h .rest) (h .whole) (h .place) in
+      let vv : take (z - (e + 1)) r ≡ v .value = take-drop-++ s (e + 1) z (v .value) (v .tail) (v .whole) (v .place) in
+      let i : h .rest ≡ r = sym (drop-suc-++ s at e key (62 ∷ h .rest) (h .whole) (h .place)) in
       let j : drop at s ≡ (key ++ (62 ∷ [])) ++ r = h .whole ∙ ap (λ (l : List ℕ). key ++ (62 ∷ l)) i ∙ sym (append-assoc key (62 ∷ []) r) in
-      let t : Token w s r = token-made s 0 (e + 1) w (opens ∙ ap (λ (l : List ℕ). 60 ∷ l) j) in
+      let t : Token w s r = drop⇒Token s 0 (e + 1) w (opens ∙ ap (λ (l : List ℕ). 60 ∷ l) j) in
       let l : KeyLine p s = record {
         tail = v .tail;
         bytes = h .bytes;
@@ -253,18 +240,18 @@ module _ (s : List ℕ) (at : ℕ) (opens : drop (skipAt s 0) s ≡ 60 ∷ drop 
   unfolding keyedLine
   key-line No h = tt
   key-line (At e) h =
-      pick-case (λ (l : Line). LineMeans s l) (eqb at e) _ _ (λ _. tt)
+      pick-case (λ (l : HeaderLine). LineMeans s l) (eqb at e) _ _ (λ _. tt)
       (λ n. value-line e (contentEnd false (e + 1) (drop (e + 1) s)) h (eqb-false at e n) (content-written false (e + 1) (drop (e + 1) s)))
 
-pub line-written : (s : List ℕ) → LineMeans s (lineOf s)
-unfolding lineOf lineAt
+pub line-written : (s : List ℕ) → LineMeans s (headerLineOf s)
+unfolding headerLineOf headerLineAt
 line-written s =
-    pick-case P (endsAt s (skipAt s 0)) _ _ (λ e. ends-written s 0 e)
+    pick-case P (endsAt s (skipAt s 0)) _ _ (λ e. endsAt⇒Closes s 0 e)
     (λ _. pick-case P (eqb (byteOf s (skipAt s 0)) 60) _ _
     (λ b. let at : ℕ = skipAt s 0 + 1 in
     key-line s at (at-byte s (skipAt s 0) at 60 refl (eqb-true (byteOf s (skipAt s 0)) 60 b) (λ x. omega arith))
     (keyEnd at (drop at s)) (key-written at (drop at s)))
     (λ _. pick-case P (isCharmap s (skipAt s 0)) _ _ (λ e. charmap-written s 0 e) (λ _. tt)))
   where
-    P : Line → Type 0
+    P : HeaderLine → Type 0
     P l = LineMeans s l

@@ -1,46 +1,50 @@
 -- Before CHARMAP: what a key's line and the line CHARMAP leave in memory, and 16 by what is in memory.
-use Prim.Native.Nat.{ℕ, zero, suc, _+_, _-_, _*_, _<_, _≤_}
+use Prim.Native.Nat.{ℕ, _+_, _-_, _*_, _<_, _≤_}
 use mathlib.Core.Path.{_≡_, refl, sym, ap, subst, _∙_}
 use mathlib.Core.Bool.{Bool, true, false, not}
 use mathlib.Core.List.{List, [], _∷_, _++_, append-assoc, append-nil, map, map-append}
 use native.Mathlib.Omega.{arith}
-use lib.Dec.{ltb, leb, eqb}
+use lib.Dec.{leb, eqb}
 use lib.ListN.{length, take, drop, replicate, length-append, length-replicate, length-map}
 use lib.Seq.{length-take-le}
-use borrow.Author.Tests.{lt-ltb, eq-eqb, ne-eqb, eqb-true, not-true, not-false}
+use borrow.Author.Tests.{eq-eqb, eqb-true, not-true, not-false}
 use Rattle.lists.specs.Pick.{pick}
 use Rattle.lists.proofs.Cases.{pick-yes, pick-no}
-use Rattle.lists.proofs.Choice.{pick-self}
-use Rattle.lists.proofs.Append.{all-append}
+use Rattle.lists.proofs.Choice.{pick-true-false, not-not-and-regroup, ltb-0-implies}
+use Rattle.lists.proofs.Append.{All-++⁺}
 use Rattle.lists.proofs.Parts.{map-replicate}
-use Rattle.lists.proofs.Front.{drop-put}
+use Rattle.lists.proofs.Front.{drop-++-drop}
 use Rattle.table.specs.Limits.{Limits, needed}
 use Rattle.table.specs.Cells.{Cell, ends, cellNumber}
 use Rattle.table.specs.States.{stepAt}
 use Rattle.table.specs.Codes.{bytesOf}
 use Rattle.table.specs.Meaning.{Line, flat, stepsOn}
-use Rattle.table.specs.Rules.{allOf, t2, t3, t4Sub, t4Sub1}
+use Rattle.table.specs.Rules.{t2, t3, t4Sub, t4Sub1}
 use Rattle.table.specs.Slices.{Slices, slices}
-use Rattle.table.specs.Memory.{filled, numbersOf, sub1In}
-use Rattle.table.specs.Valid.{zeros, stateOk, statesOk}
-use Rattle.table.specs.Row.{columnsOf, rowOf, putRow}
-use Rattle.table.specs.Header.{isRow, InRange}
+use Rattle.table.specs.Memory.{numbersOf, sub1In}
+use Rattle.table.specs.Valid.{stateOk, statesOk}
+use Rattle.table.specs.Row.{entriesOf, rowOf}
+use Rattle.table.specs.Header.{isRow}
 use Rattle.table.specs.Numbers.{lowest, n13, n16, rowsAt, keyConditions, charmapConditions}
-use Rattle.table.specs.Load.{judged, reading, keep, keepRow}
-use Rattle.table.specs.Progress.{keysIn, headOf, headAt, ProperHead, Holding, Taken, progress}
-use Rattle.table.specs.declared.header.Key.{Key}
-use Rattle.table.specs.declared.header.Value.{Value}
+use Rattle.table.specs.Load.{judged, reading, keepValue, keepRow}
+use Rattle.table.specs.loops.Progress.{keysIn, headOf, headAt, ProperHead, Holding, StepTaken, progress}
 use Rattle.table.specs.declared.header.Head.{Head}
 use Rattle.table.specs.declared.load.Refusal.the-variants as refusal
 use Rattle.table.specs.declared.load.Verdict.the-variants.{Fine, Refuse}
 use Rattle.table.specs.declared.load.Phase.the-variants.{Header, Mappings}
-use Rattle.table.specs.declared.load.Went.the-variants as outcome
-use Rattle.table.proofs.RowLaws.{states-t2, length-numbers, steps-filled}
+use Rattle.table.specs.declared.load.LineOutcome.the-variants as outcome
+use Rattle.table.proofs.RowLaws.{allOf-stateOk, length-numbers, steps-filled}
 use Rattle.table.proofs.Depth.{states-test}
-use Rattle.table.proofs.Sorted.{fill-put, filled-take, filled-zeros}
+use Rattle.lists.proofs.Filled.{fill-put, filled-take, filled-zeros}
 use Rattle.table.proofs.HeaderLaws.{row-room, row-length}
-use Rattle.table.proofs.KeyLaws.{min-is, max-is, subchar-is, absent-by, rows-by, keepIn, keep-proper, keep-count, kept-keys, kept-head}
+use Rattle.table.proofs.KeyLaws.{minOf-keysIn, maxOf-keysIn, subcharOf-keysIn, absent-by, rows-by, keepIn, keep-proper, keep-count, kept-keys, kept-head}
 use Rattle.table.proofs.LineSteps.{fine-taken}
+use Rattle.lists.specs.Tests.{allOf, zeros}
+use Rattle.lists.specs.Place.{filled}
+use Rattle.table.specs.loops.Coded.{putRow}
+use Rattle.table.specs.loops.Ranges.{InRange}
+use Rattle.table.specs.declared.value.Key.{Key}
+use Rattle.table.specs.declared.value.Value.{Value}
 
 -- the header with another count of rows
 pub head-rows : (h : Head) (rows : List (List Cell)) → ProperHead h → ProperHead (headAt h rows)
@@ -62,7 +66,7 @@ row-beyond lim r row s h e k =
     let a : length (take (r * 256) s) ≡ r * 256 = length-take-le (r * 256) s (omega arith) in
     let n : length (take (r * 256) s ++ row) ≡ r * 256 + 256 = length-append (take (r * 256) s) row ∙ (λ t. a t + e t) in
     ap (λ (l : List ℕ). drop (needed lim) l) (sym (append-assoc (take (r * 256) s) row (drop (r * 256 + 256) s)))
-    ∙ drop-put (needed lim) (r * 256 + 256) (take (r * 256) s ++ row) s n (omega arith)
+    ∙ drop-++-drop (needed lim) (r * 256 + 256) (take (r * 256) s ++ row) s n (omega arith)
 
 -- the conditions of a key's line, by the count of rows in the struct
 pub key-count : (lim : Limits) (h : Head) (rows : List (List Cell)) → h .rows ≡ length rows → (k : Key) (v : Value)
@@ -108,7 +112,7 @@ module _ (lim : Limits) (h : Head) (rows : List (List Cell)) (s c i o : List ℕ
         head-proper = p;
         rows-count = omega arith;
         rows-few = omega arith;
-        rows-full = all-append (λ r. length r ≡ 256) rows (row ∷ []) (held .rows-full) (full, tt);
+        rows-full = All-++⁺ (λ r. length r ≡ 256) rows (row ∷ []) (held .rows-full) (full, tt);
         states-are = ap (λ (x : List ℕ). take (needed lim) x) put ∙ fill-put (needed lim) (h .rows * 256) 256 old (old ++ new) s numbers-length m (omega arith) (held .states-are) ∙ ap (λ (x : List ℕ). filled (needed lim) x) (sym (numbers-more rows row));
         lines-count = held .lines-count;
         lines-good = held .lines-good;
@@ -131,42 +135,42 @@ module _ (lim : Limits) (h : Head) (rows : List (List Cell)) (s c i o : List ℕ
       none (r ∷ rs) e = absurd (omega arith)
 
   -- a key's line
-  key-holds : (k : Key) (v : Value) (t s′ : List ℕ) → lowest (keyConditions lim (keysIn h) (h .rows) k v) ≡ Fine → InRange v → s′ ≡ pick (isRow v) (putRow (h .rows) (map cellNumber (rowOf (columnsOf t))) s) s
+  key-holds : (k : Key) (v : Value) (t s′ : List ℕ) → lowest (keyConditions lim (keysIn h) (h .rows) k v) ≡ Fine → InRange v → s′ ≡ pick (isRow v) (putRow (h .rows) (map cellNumber (rowOf (entriesOf t))) s) s
       → Holding lim (keepIn h v) 0 (keepRow v t rows) [] (slices s′ c i o)
   unfolding keepRow
   key-holds k v t s′ fine in-range q = go (isRow v) refl
     where
       go : (b : Bool) → isRow v ≡ b → Holding lim (keepIn h v) 0 (keepRow v t rows) [] (slices s′ c i o)
       go true e =
-          let row = rowOf (columnsOf t) in
+          let row = rowOf (entriesOf t) in
           let a : putRow (h .rows) (map cellNumber row) s ≡ s′ = sym (q ∙ pick-yes (isRow v) (putRow (h .rows) (map cellNumber row) s) s e) in
           let b : rows ++ (row ∷ []) ≡ keepRow v t rows = sym (pick-yes (isRow v) (rows ++ (row ∷ [])) rows e) in
           subst (λ (x : List ℕ). Holding lim (keepIn h v) 0 (keepRow v t rows) [] (slices x c i o)) a
           (subst (λ (rs : List (List Cell)). Holding lim (keepIn h v) 0 rs [] (slices (putRow (h .rows) (map cellNumber row) s) c i o)) b
           (row-holds (keepIn h v) row (keep-proper h v in-range (held .head-proper)) (keep-count h v ∙ pick-yes (isRow v) (h .rows + 1) (h .rows) e) (row-room lim (keysIn h) (h .rows) k v fine e) (row-length t)))
       go false e =
-          let a : s ≡ s′ = sym (q ∙ pick-no (isRow v) (putRow (h .rows) (map cellNumber (rowOf (columnsOf t))) s) s e) in
-          let b : rows ≡ keepRow v t rows = sym (pick-no (isRow v) (rows ++ (rowOf (columnsOf t) ∷ [])) rows e) in
+          let a : s ≡ s′ = sym (q ∙ pick-no (isRow v) (putRow (h .rows) (map cellNumber (rowOf (entriesOf t))) s) s e) in
+          let b : rows ≡ keepRow v t rows = sym (pick-no (isRow v) (rows ++ (rowOf (entriesOf t) ∷ [])) rows e) in
           subst (λ (x : List ℕ). Holding lim (keepIn h v) 0 (keepRow v t rows) [] (slices x c i o)) a
           (subst (λ (rs : List (List Cell)). Holding lim (keepIn h v) 0 rs [] (slices s c i o)) b
           (head-holds (keepIn h v) (keep-proper h v in-range (held .head-proper)) (keep-count h v ∙ pick-no (isRow v) (h .rows + 1) (h .rows) e)))
 
-  pub key-taken : (k : Key) (v : Value) (t s′ : List ℕ) (g : Head) → lowest (keyConditions lim (keysIn h) (h .rows) k v) ≡ Fine → InRange v → g ≡ headOf (keep (keysIn h) v) (pick (isRow v) (h .rows + 1) (h .rows))
-      → s′ ≡ pick (isRow v) (putRow (h .rows) (map cellNumber (rowOf (columnsOf t))) s) s
-      → Taken lim (judged (lowest (keyConditions lim (keysIn h) (length rows) k v)) (reading Header (keep (keysIn h) v) (keepRow v t rows) []))
+  pub key-taken : (k : Key) (v : Value) (t s′ : List ℕ) (g : Head) → lowest (keyConditions lim (keysIn h) (h .rows) k v) ≡ Fine → InRange v → g ≡ headOf (keepValue (keysIn h) v) (pick (isRow v) (h .rows + 1) (h .rows))
+      → s′ ≡ pick (isRow v) (putRow (h .rows) (map cellNumber (rowOf (entriesOf t))) s) s
+      → StepTaken lim (judged (lowest (keyConditions lim (keysIn h) (length rows) k v)) (reading Header (keepValue (keysIn h) v) (keepRow v t rows) []))
       (outcome.On (progress Header g 0)) (slices s′ c i o)
   key-taken k v t s′ g fine in-range e q =
-      fine-taken lim (lowest (keyConditions lim (keysIn h) (length rows) k v)) (reading Header (keep (keysIn h) v) (keepRow v t rows) []) (keepIn h v) (progress Header g 0)
+      fine-taken lim (lowest (keyConditions lim (keysIn h) (length rows) k v)) (reading Header (keepValue (keysIn h) v) (keepRow v t rows) []) (keepIn h v) (progress Header g 0)
       (slices s′ c i o) (key-count lim h rows (held .rows-count) k v ∙ fine) (ap (λ (x : Head). progress Header x 0) (e ∙ sym (kept-head h v in-range (held .head-proper)))) (kept-keys h v in-range) (key-holds k v t s′ fine in-range q)
 
 -- and what is past the needed places stays
-pub key-beyond : (lim : Limits) (h : Head) (k : Key) (v : Value) (t s s′ : List ℕ) → lowest (keyConditions lim (keysIn h) (h .rows) k v) ≡ Fine → needed lim ≤ length s → s′ ≡ pick (isRow v) (putRow (h .rows) (map cellNumber (rowOf (columnsOf t))) s) s
+pub key-beyond : (lim : Limits) (h : Head) (k : Key) (v : Value) (t s s′ : List ℕ) → lowest (keyConditions lim (keysIn h) (h .rows) k v) ≡ Fine → needed lim ≤ length s → s′ ≡ pick (isRow v) (putRow (h .rows) (map cellNumber (rowOf (entriesOf t))) s) s
     → drop (needed lim) s′ ≡ drop (needed lim) s
 key-beyond lim h k v t s s′ fine long q = go (isRow v) refl
   where
     go : (b : Bool) → isRow v ≡ b → drop (needed lim) s′ ≡ drop (needed lim) s
-    go true e = ap (λ (x : List ℕ). drop (needed lim) x) (q ∙ pick-yes (isRow v) (putRow (h .rows) (map cellNumber (rowOf (columnsOf t))) s) s e) ∙ row-beyond lim (h .rows) (map cellNumber (rowOf (columnsOf t))) s (row-room lim (keysIn h) (h .rows) k v fine e) (length-map (rowOf (columnsOf t)) cellNumber ∙ row-length t) long
-    go false e = ap (λ (x : List ℕ). drop (needed lim) x) (q ∙ pick-no (isRow v) (putRow (h .rows) (map cellNumber (rowOf (columnsOf t))) s) s e)
+    go true e = ap (λ (x : List ℕ). drop (needed lim) x) (q ∙ pick-yes (isRow v) (putRow (h .rows) (map cellNumber (rowOf (entriesOf t))) s) s e) ∙ row-beyond lim (h .rows) (map cellNumber (rowOf (entriesOf t))) s (row-room lim (keysIn h) (h .rows) k v fine e) (length-map (rowOf (entriesOf t)) cellNumber ∙ row-length t) long
+    go false e = ap (λ (x : List ℕ). drop (needed lim) x) (q ∙ pick-no (isRow v) (putRow (h .rows) (map cellNumber (rowOf (entriesOf t))) s) s e)
 
 -- the rows at CHARMAP
 rows-new : (h : Head) (rows : List (List Cell)) → h .rows ≡ length rows → h .class ≡ 1 → h .rows ≡ 0 → rowsAt (keysIn h) rows ≡ replicate 256 ends ∷ []
@@ -199,15 +203,6 @@ module _ (lim : Limits) (h : Head) (rows : List (List Cell)) (s c i o : List ℕ
       let q : h ≡ headAt h rows = (λ t. record { name = h .name; min = h .min; max = h .max; class = h .class; sub = h .sub; sub1 = h .sub1; rows = held .rows-count t }) in
       (q ∙ ap (headAt h) e, subst (λ (rs : List (List Cell)). Holding lim (headAt h rs) 0 rs [] (slices s c i o)) e (subst (λ (g : Head). Holding lim g 0 rows [] (slices s c i o)) q held))
 
--- 16 by what is in memory
-by-two : (a b c d e : Bool) → not (pick a (pick b (pick c (pick d (pick e false true) true) true) true) true) ≡ pick a (pick (pick b c false) (pick d e false) false) false
-by-two true true true true true = refl
-by-two true true true true false = refl
-by-two true true true false e = refl
-by-two true true false d e = refl
-by-two true false c d e = refl
-by-two false b c d e = refl
-
 module _ (lim : Limits) (h : Head) (rows : List (List Cell)) (s c i o : List ℕ) (held : Holding lim h 0 rows [] (slices s c i o)) (long : needed lim ≤ length s) (few : h .rows ≤ lim .rows) where
   abbrev same : stepAt (take (needed lim) s) ≡ stepsOn rows
   same = steps-filled (needed lim) rows (take (needed lim) s) (held .states-are)
@@ -217,42 +212,37 @@ module _ (lim : Limits) (h : Head) (rows : List (List Cell)) (s c i o : List ℕ
       let z : zeros (take (needed lim - h .rows * 256) (drop (h .rows * 256) s)) ≡ true = filled-zeros (needed lim) (h .rows * 256) s (numbersOf rows) (numbers-length lim h rows s c i o held) (held .states-are) in
       states-test lim (h .rows) s long
       ∙ (λ t. pick (allOf (stateOk (h .rows)) (numbers-held lim h rows s c i o held few t)) (z t) false)
-      ∙ pick-self (allOf (stateOk (h .rows)) (numbersOf rows))
-      ∙ states-t2 (h .rows) (flat rows)
+      ∙ pick-true-false (allOf (stateOk (h .rows)) (numbersOf rows))
+      ∙ allOf-stateOk (h .rows) (flat rows)
       ∙ ap (λ (n : ℕ). t2 n (flat rows)) (held .rows-count)
 
-  abbrev n16With : ℕ → ℕ → List ℕ → Bool
-  n16With min max sub =
+  abbrev keepsWith : ℕ → ℕ → List ℕ → Bool
+  keepsWith min max sub =
       pick (leb min max)
       (pick (t2 (length rows) (flat rows))
       (pick (t3 (stepsOn rows) max)
       (pick (t4Sub (stepsOn rows) sub)
-      (pick (t4Sub1 (stepsOn rows) (sub1In (h .sub1))) false true) true) true) true) true
+      (t4Sub1 (stepsOn rows) (sub1In (h .sub1))) false) false) false) false
 
-  pub sound-is : not (n16 (keysIn h) rows)
+  pub not-n16 : not (n16 (keysIn h) rows)
       ≡ pick (leb (h .min) (h .max))
       (pick (pick (statesOk lim (h .rows) s) (t3 (stepAt (take (needed lim) s)) (h .max)) false)
       (pick (t4Sub (stepAt (take (needed lim) s)) (bytesOf (h .sub))) (t4Sub1 (stepAt (take (needed lim) s)) (sub1In (h .sub1))) false) false) false
   unfolding n16
-  sound-is =
-      (λ t. not (n16With (min-is h t) (max-is h t) (subchar-is h t)))
-      ∙ by-two (leb (h .min) (h .max)) (t2 (length rows) (flat rows)) (t3 (stepsOn rows) (h .max)) (t4Sub (stepsOn rows) (bytesOf (h .sub))) (t4Sub1 (stepsOn rows) (sub1In (h .sub1)))
+  not-n16 =
+      (λ t. not (not (keepsWith (minOf-keysIn h t) (maxOf-keysIn h t) (subcharOf-keysIn h t))))
+      ∙ not-not-and-regroup (leb (h .min) (h .max)) (t2 (length rows) (flat rows)) (t3 (stepsOn rows) (h .max)) (t4Sub (stepsOn rows) (bytesOf (h .sub))) (t4Sub1 (stepsOn rows) (sub1In (h .sub1)))
       ∙ sym (λ t. pick (leb (h .min) (h .max))
       (pick (pick (states-held t) (t3 (same t) (h .max)) false)
       (pick (t4Sub (same t) (bytesOf (h .sub))) (t4Sub1 (same t) (sub1In (h .sub1))) false) false) false)
 
--- 13, test by test
-flip : (n : ℕ) (x : Bool) → pick (ltb 0 n) x true ≡ pick (eqb n 0) true x
-flip zero x = refl
-flip (suc n) x = ap (λ (b : Bool). pick b x true) (lt-ltb 0 (suc n) (omega arith)) ∙ sym (ap (λ (b : Bool). pick b true x) (ne-eqb (suc n) 0 (λ e. omega arith)))
-
 absent-is : (h : Head) → n13 (keysIn h) (h .rows) ≡ pick (h .name) (pick (eqb (h .min) 0) true (pick (eqb (h .max) 0) true (pick (eqb (h .class) 0) true (pick (eqb (h .sub .len) 0) true (pick (eqb (h .class) 1) false (eqb (h .rows) 0)))))) true
 absent-is h =
     absent-by h
-    ∙ ap (λ (b : Bool). pick (h .name) b true) (flip (h .min) _
-    ∙ ap (λ (b : Bool). pick (eqb (h .min) 0) true b) (flip (h .max) _
-    ∙ ap (λ (b : Bool). pick (eqb (h .max) 0) true b) (flip (h .class) _
-    ∙ ap (λ (b : Bool). pick (eqb (h .class) 0) true b) (flip (h .sub .len) _))))
+    ∙ ap (λ (b : Bool). pick (h .name) b true) (ltb-0-implies (h .min) _
+    ∙ ap (λ (b : Bool). pick (eqb (h .min) 0) true b) (ltb-0-implies (h .max) _
+    ∙ ap (λ (b : Bool). pick (eqb (h .max) 0) true b) (ltb-0-implies (h .class) _
+    ∙ ap (λ (b : Bool). pick (eqb (h .class) 0) true b) (ltb-0-implies (h .sub .len) _))))
 
 pub absent-as : (h : Head) (r : Bool)
     → r ≡ pick (h .name) (pick (eqb (h .min) 0) true (pick (eqb (h .max) 0) true (pick (eqb (h .class) 0) true (pick (eqb (h .sub .len) 0) true (pick (eqb (h .class) 1) false (eqb (h .rows) 0)))))) true
@@ -287,7 +277,7 @@ module _ (lim : Limits) (h g : Head) (rows : List (List Cell)) (b : Bool) (s c i
   charmap-broken e = verdict ∙ pick-yes (n16 (keysIn h) (rowsAt (keysIn h) rows)) _ _ (not-false (n16 (keysIn h) (rowsAt (keysIn h) rows)) (sym sound-at ∙ e))
 
   pub charmap-taken : b ≡ true
-      → Taken lim (judged (lowest (charmapConditions (keysIn h) rows)) (reading Mappings (keysIn h) (rowsAt (keysIn h) rows) [])) (outcome.On (progress Mappings g 0)) (slices s c i o)
+      → StepTaken lim (judged (lowest (charmapConditions (keysIn h) rows)) (reading Mappings (keysIn h) (rowsAt (keysIn h) rows) [])) (outcome.On (progress Mappings g 0)) (slices s c i o)
   charmap-taken e =
       fine-taken lim (lowest (charmapConditions (keysIn h) rows)) (reading Mappings (keysIn h) (rowsAt (keysIn h) rows) []) (headAt h (rowsAt (keysIn h) rows))
       (progress Mappings g 0) (slices s c i o)
@@ -295,7 +285,7 @@ module _ (lim : Limits) (h g : Head) (rows : List (List Cell)) (b : Bool) (s c i
       (ap (λ (x : Head). progress Mappings x 0) (now .0)) refl (now .1)
 
 -- no mapping is held yet
-pub none-held : (lim : Limits) (h : Head) (n : ℕ) (rows : List (List Cell)) (ls : List Line) (lent : Slices) → n ≡ 0 → Holding lim h n rows ls lent
+pub Holding-none : (lim : Limits) (h : Head) (n : ℕ) (rows : List (List Cell)) (ls : List Line) (lent : Slices) → n ≡ 0 → Holding lim h n rows ls lent
     → Holding lim h 0 rows [] lent
-none-held lim h n rows [] lent e held = subst (λ (k : ℕ). Holding lim h k rows [] lent) e held
-none-held lim h n rows (l ∷ ls) lent e held = let m = held .lines-count in absurd (omega arith)
+Holding-none lim h n rows [] lent e held = subst (λ (k : ℕ). Holding lim h k rows [] lent) e held
+Holding-none lim h n rows (l ∷ ls) lent e held = let m = held .lines-count in absurd (omega arith)

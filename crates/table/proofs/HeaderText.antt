@@ -5,39 +5,42 @@
 use Prim.Native.Nat.{ℕ, suc, _+_, _<_, _≤_}
 use mathlib.Core.Path.{_≡_, refl, sym, ap, _∙_, subst}
 use mathlib.Core.Logic.{_⊎_, inl, inr}
-use mathlib.Core.Bool.{Bool, true, false}
+use mathlib.Core.Bool.{Bool, true, false, not}
 use mathlib.Core.Option.{Option, none, some}
 use mathlib.Core.List.{List, [], _∷_, _++_, map, reverse, reverseAux, reverseAux-eq}
 use native.Mathlib.Omega.{arith}
 use lib.ListN.{length, replicate, length-append, length-reverseAux}
-use lib.Dec.{eqb}
-use borrow.Author.Tests.{lt-leb, eqb-true, eqb-false, ne-eqb}
+use lib.Dec.{eqb, leb}
+use borrow.Author.Tests.{lt-leb, eqb-true, eqb-false, leb-true, le-leb, not-false}
 use Rattle.lists.specs.Pick.{pick}
 use Rattle.lists.specs.Ascii.{ascii}
-use Rattle.lists.proofs.Laws.{clash}
-use Rattle.lists.proofs.Choice.{pick-false}
-use Rattle.lists.proofs.Chains.{chain, chain-first, chain-rest}
 use Rattle.table.specs.Limits.{Limits}
 use Rattle.table.specs.Cells.{Cell, ends}
 use Rattle.table.specs.Codes.{packed}
-use Rattle.table.specs.Meaning.{Line, Table, same}
-use Rattle.table.specs.Keys.{Class as ConvClasses, sbcs, mbcs, Keys, isSome, isSbcs, minOf, maxOf, subcharOf}
-use Rattle.table.specs.Row.{rowOf, painted, spread, meaning}
+use Rattle.table.specs.Meaning.{Line, Table}
+use Rattle.table.specs.Keys.{sbcs, mbcs, Keys, isSbcs, minOf, maxOf, subcharOf, Class as ConvClasses}
+use Rattle.table.specs.Row.{rowOf, overwritten, meaning}
 use Rattle.table.specs.Header.{className, valueOf}
-use Rattle.table.specs.Numbers.{n11, n12, n13, n14, n15, rowLater, rowOver, rowsAt}
+use Rattle.table.specs.Numbers.{n11, n12, n13, n14, n15, rowUnbuilt, rowsAt, nothingAbsent}
 use Rattle.table.specs.Grammar.{Pair, keyText, NameValue, SizeValue, Quoted, BytesValue, SubcharValue, StateRow, StateRows, valuesOf, Once, Perhaps, everyByte, RowsAre, HeaderSays}
-use Rattle.table.specs.declared.header.Column.{Column}
-use Rattle.table.specs.declared.header.Key.{Key}
-use Rattle.table.specs.declared.header.Key.the-variants.{CodeSetName, CurMin, CurMax, ConvClass, SubChar, SubChar1, State, Base, Other}
-use Rattle.table.specs.declared.header.Value.{Value}
-use Rattle.table.specs.declared.header.Value.the-variants.{Min, Max, Class, Sub, Sub1, Row}
-use Rattle.table.proofs.LineLaws.{is-same}
+use Rattle.lists.proofs.Strings.{same-refl}
 use Rattle.table.proofs.Packing.{pack-one-way}
 use Rattle.table.proofs.Judged.{tableWith}
-use Rattle.table.proofs.ValueRead.{name-reads, min-reads, max-reads, class-reads, sub-reads, sub1-reads, bytes-are}
+use Rattle.table.proofs.ValueRead.{name-reads, min-reads, max-reads, class-reads, sub-reads, sub1-reads, BytesValue⇒AllByte}
 use Rattle.table.proofs.RowRead.{row-reads}
-use Rattle.table.proofs.RowEntries.{none-later, none-over}
-use Rattle.table.proofs.KeysHeld.{pair, KeyMeans, Given, Slot, flag, given1, ClassOf, Subchar1Of, Slots, RowsHeld, Held}
+use Rattle.table.proofs.RowEntries.{none-unbuilt, none-over}
+use Rattle.table.proofs.KeysHeld.{pair, KeyMeans, OnceGiven, Slot, flag, given1, ClassOf, Subchar1Of, Slots, RowsHeld, HeaderKept}
+use Rattle.lists.specs.Strings.{same}
+use Rattle.lists.specs.Options.{isSome}
+use Rattle.lists.specs.Place.{fillRange}
+use Rattle.lists.proofs.Laws.{and-yes, and-left, and-right}
+use Rattle.lists.proofs.Choice.{pick-true-true}
+use Rattle.table.proofs.OneMore.{row-over}
+use Rattle.table.specs.declared.row.Entry.{Entry}
+use Rattle.table.specs.declared.value.Key.{Key}
+use Rattle.table.specs.declared.value.Key.the-variants.{CodeSetName, CurMin, CurMax, ConvClass, SubChar, SubChar1, State, Base, Other}
+use Rattle.table.specs.declared.value.Value.{Value}
+use Rattle.table.specs.declared.value.Value.the-variants.{Min, Max, Class, Sub, Sub1, Row}
 
 -- ## The lines of a header, the last one first, and in the text's order
 
@@ -58,15 +61,15 @@ slot-reversed : {n : ℕ} {P : List ℕ → Type 0} (k : Key) (ps : List Pair) �
 unfolding valuesOf
 slot-reversed {n} {P} k ps s = by-slot (s .either)
   where
-    by-slot : Given n P (valuesOf k ps) → Slot n P (valuesOf k (reverse ps))
+    by-slot : OnceGiven n P (valuesOf k ps) → Slot n P (valuesOf k (reverse ps))
     by-slot (inl (z, e)) = record { either = inl (z, none-reversed k ps e) }
     by-slot (inr (one, (v, e, f))) = record { either = inr (one, (v, values-reverse k ps [] ∙ ap reverse e, f)) }
 
--- the same as `Held`, in the text's order
+-- the same as `HeaderKept`, in the text's order
 abbrev pub Ordered : Keys → List (List Cell) → List Pair → Type 0
 Ordered h rows qs = Slots h qs × RowsHeld rows (valuesOf State qs) (valuesOf Base qs)
 
-pub in-order : (h : Keys) (rows : List (List Cell)) (ps : List Pair) → Held h rows ps → Ordered h rows (reverse ps)
+pub in-order : (h : Keys) (rows : List (List Cell)) (ps : List Pair) → HeaderKept h rows ps → Ordered h rows (reverse ps)
 unfolding valuesOf
 in-order h rows ps (s, r) = (
   (
@@ -94,19 +97,19 @@ flag-one b e = let z : flag b ≡ 1 = ap flag e in omega arith
 given-once : (n : ℕ) (P : List ℕ → Type 0) (vs : List (List ℕ)) → Slot n P vs → 1 ≤ n → (v : List ℕ) × (vs ≡ v ∷ []) × P v
 given-once n P vs s one = by-slot (s .either)
   where
-    by-slot : Given n P vs → (v : List ℕ) × (vs ≡ v ∷ []) × P v
+    by-slot : OnceGiven n P vs → (v : List ℕ) × (vs ≡ v ∷ []) × P v
     by-slot (inl (z, e)) = absurd (omega arith)
     by-slot (inr (one, g)) = g
 
 unset : (n : ℕ) (P : List ℕ → Type 0) (vs : List (List ℕ)) → Slot n P vs → vs ≡ [] → n ≡ 0
 unset n P vs s e = by-slot (s .either)
   where
-    by-slot : Given n P vs → n ≡ 0
+    by-slot : OnceGiven n P vs → n ≡ 0
     by-slot (inl (z, x)) = z
     by-slot (inr (one, (v, x, f))) = absurd (let k : _≡_ {A = ℕ} 0 1 = ap length (sym e ∙ x) in omega arith)
 
 every-byte : rowOf (everyByte ∷ []) ≡ replicate 256 ends
-unfolding rowOf painted spread meaning
+unfolding rowOf overwritten fillRange meaning
 every-byte = refl
 
 none-is : (o : Option ℕ) → given1 o ≡ 0 → o ≡ none
@@ -116,12 +119,12 @@ none-is (some b) e = absurd (omega arith)
 sub1-says : (o : Option ℕ) (ps : List Pair) → Slot (given1 o) (Subchar1Of o) (valuesOf SubChar1 ps) → Perhaps o ps
 sub1-says o ps s = by-slot (s .either)
   where
-    by-slot : Given (given1 o) (Subchar1Of o) (valuesOf SubChar1 ps) → Perhaps o ps
+    by-slot : OnceGiven (given1 o) (Subchar1Of o) (valuesOf SubChar1 ps) → Perhaps o ps
     by-slot (inl (z, e)) = subst (λ (x : Option ℕ). Perhaps x ps) (sym (none-is o z)) e
     by-slot (inr (one, (v, e, (b, k, f)))) = subst (λ (x : Option ℕ). Perhaps x ps) (sym k) (v, e, f)
 
 -- the rows at CHARMAP
-none-long : (ess : List (List Column)) → length ess ≡ 0 → ess ≡ []
+none-long : (ess : List (List Entry)) → length ess ≡ 0 → ess ≡ []
 none-long [] e = refl
 none-long (x ∷ ess) e = absurd (omega arith)
 
@@ -137,8 +140,8 @@ rows-none : (h : Keys) (rows : List (List Cell)) → h .class ≡ some sbcs → 
 unfolding rowsAt
 rows-none h rows c e = rw (c, e)
 
-rows-say : (h : Keys) (rows : List (List Cell)) (w : List ℕ) (ess : List (List Column)) → ((h .class ≡ some sbcs) × (w ≡ ascii "SBCS")) ⊎ ((h .class ≡ some mbcs) × (w ≡ ascii "MBCS"))
-    → length rows ≡ length ess → rows ≡ map rowOf ess → pick (isSbcs (h .class)) false (eqb (length rows) 0) ≡ false → RowsAre w ess (rowsAt h rows)
+rows-say : (h : Keys) (rows : List (List Cell)) (w : List ℕ) (ess : List (List Entry)) → ((h .class ≡ some sbcs) × (w ≡ ascii "SBCS")) ⊎ ((h .class ≡ some mbcs) × (w ≡ ascii "MBCS"))
+    → length rows ≡ length ess → rows ≡ map rowOf ess → pick (isSbcs (h .class)) true (leb 1 (length rows)) ≡ true → RowsAre w ess (rowsAt h rows)
 rows-say h rows w ess c n r k = by-count (eqb (length rows) 0) refl c
   where
     by-count : (x : Bool) → eqb (length rows) 0 ≡ x → ((h .class ≡ some sbcs) × (w ≡ ascii "SBCS")) ⊎ ((h .class ≡ some mbcs) × (w ≡ ascii "MBCS")) → RowsAre w ess (rowsAt h rows)
@@ -146,11 +149,15 @@ rows-say h rows w ess c n r k = by-count (eqb (length rows) 0) refl c
     by-count true e (inl (d, s)) =
         let m = eqb-true (length rows) 0 e in
         inr (none-long ess (omega arith), s, rows-none h rows d e ∙ ap (λ (l : List Cell). l ∷ []) (sym every-byte))
-    by-count true e (inr (d, s)) = let z : eqb (length rows) 0 ≡ false = sym (ap (λ (c : Option ConvClasses). pick (isSbcs c) false (eqb (length rows) 0)) d) ∙ k in absurd (clash e z)
+    by-count true e (inr (d, s)) =
+        let z : leb 1 (length rows) ≡ true = sym (ap (λ (c : Option ConvClasses). pick (isSbcs c) true (leb 1 (length rows))) d) ∙ k in
+        let o = leb-true 1 (length rows) z in
+        let m = eqb-true (length rows) 0 e in
+        absurd (omega arith)
 
 module _ (h : Keys) (rows : List (List Cell)) (ps : List Pair) (ls : List Line) (held : Ordered h rows ps) where
   -- at CHARMAP, with nothing absent
-  says-by : pick (isSbcs (h .class)) false (eqb (length rows) 0) ≡ false → h .name ≡ true → 1 ≤ given1 (h .min) → 1 ≤ given1 (h .max) → 1 ≤ given1 (h .class) → 1 ≤ given1 (h .subchar)
+  says-by : pick (isSbcs (h .class)) true (leb 1 (length rows)) ≡ true → h .name ≡ true → 1 ≤ given1 (h .min) → 1 ≤ given1 (h .max) → 1 ≤ given1 (h .class) → 1 ≤ given1 (h .subchar)
       → HeaderSays ps (tableWith h (rowsAt h rows) ls)
   says-by k name min max class sub =
       let s = held .0 in
@@ -184,13 +191,14 @@ module _ (h : Keys) (rows : List (List Cell)) (ps : List Pair) (ls : List Line) 
   pub header-said : n13 h (length rows) ≡ false → HeaderSays ps (tableWith h (rowsAt h rows) ls)
   unfolding n13
   header-said e =
-      let a1 = chain-rest (h .name) _ e in
-      let a2 = chain-rest (isSome (h .min)) _ a1 in
-      let a3 = chain-rest (isSome (h .max)) _ a2 in
-      let a4 = chain-rest (isSome (h .class)) _ a3 in
-      says-by (chain-rest (isSome (h .subchar)) _ a4) (chain-first (h .name) _ e) (flag-one (isSome (h .min)) (chain-first (isSome (h .min)) _ a1))
-      (flag-one (isSome (h .max)) (chain-first (isSome (h .max)) _ a2)) (flag-one (isSome (h .class)) (chain-first (isSome (h .class)) _ a3))
-      (flag-one (isSome (h .subchar)) (chain-first (isSome (h .subchar)) _ a4))
+      let a0 = not-false (nothingAbsent h (length rows)) e in
+      let a1 = and-right (h .name) _ a0 in
+      let a2 = and-right (isSome (h .min)) _ a1 in
+      let a3 = and-right (isSome (h .max)) _ a2 in
+      let a4 = and-right (isSome (h .class)) _ a3 in
+      says-by (and-right (isSome (h .subchar)) _ a4) (and-left (h .name) _ a0) (flag-one (isSome (h .min)) (and-left (isSome (h .min)) _ a1))
+      (flag-one (isSome (h .max)) (and-left (isSome (h .max)) _ a2)) (flag-one (isSome (h .class)) (and-left (isSome (h .class)) _ a3))
+      (flag-one (isSome (h .subchar)) (and-left (isSome (h .subchar)) _ a4))
 
 -- ## From what the header says to what reading asks at each line
 
@@ -200,7 +208,7 @@ only (y ∷ vs) ws x v e = let k : length (reverseAux vs (y ∷ x ∷ ws)) ≡ 1
 
 values-here : (k : Key) (v : List ℕ) (ps qs : List Pair) → valuesOf k (reverseAux ps (pair (keyText k) v ∷ qs)) ≡ reverseAux (valuesOf k ps) (v ∷ valuesOf k qs)
 unfolding valuesOf
-values-here k v ps qs = values-reverse k ps (pair (keyText k) v ∷ qs) ∙ rw (is-same (keyText k))
+values-here k v ps qs = values-reverse k ps (pair (keyText k) v ∷ qs) ∙ rw (same-refl (keyText k))
 
 once-here : (k : Key) (v : List ℕ) (P : List ℕ → Type 0) (ps qs : List Pair) → Once k P (reverseAux ps (pair (keyText k) v ∷ qs)) → (valuesOf k ps ≡ []) × P v
 once-here k v P ps qs (x, e, f) =
@@ -219,13 +227,13 @@ flag-none false e = refl
 flag-none true e = absurd (omega arith)
 
 -- rows: as many as values, and each value has its row
-rows-long : (n : ℕ) (ess : List (List Column)) (vs : List (List ℕ)) → StateRows n ess vs → length ess ≡ length vs
+rows-long : (n : ℕ) (ess : List (List Entry)) (vs : List (List ℕ)) → StateRows n ess vs → length ess ≡ length vs
 rows-long n [] [] s = refl
 rows-long n [] (v ∷ vs) s = absurd s
 rows-long n (es ∷ ess) [] s = absurd s
 rows-long n (es ∷ ess) (v ∷ vs) s = omega (arith, rows-long (n + 1) ess vs (s .1))
 
-row-at : (n : ℕ) (ess : List (List Column)) (vs ws : List (List ℕ)) (v : List ℕ) → StateRows n ess (vs ++ (v ∷ ws)) → (es : List Column) × StateRow (n + length vs) es v
+row-at : (n : ℕ) (ess : List (List Entry)) (vs ws : List (List ℕ)) (v : List ℕ) → StateRows n ess (vs ++ (v ∷ ws)) → (es : List Entry) × StateRow (n + length vs) es v
 row-at n [] [] ws v s = absurd s
 row-at n [] (x ∷ vs) ws v s = absurd s
 row-at n (es ∷ ess) [] ws v s = (es, let e : n ≡ n + 0 = omega arith in subst (λ (m : ℕ). StateRow m es v) e (s .0))
@@ -234,19 +242,19 @@ row-at n (es ∷ ess) (x ∷ vs) ws v s =
     let e : n + 1 + length vs ≡ n + suc (length vs) = omega arith in
     (r .0, subst (λ (m : ℕ). StateRow m (r .0) v) e (r .1))
 
-word-built : (n k : ℕ) → (k ≡ 0) ⊎ ((k ≡ 1) × (n ≡ 0)) → rowLater n k false ≡ false
-unfolding rowLater
+word-built : (n k : ℕ) → (k ≡ 0) ⊎ ((k ≡ 1) × (n ≡ 0)) → rowUnbuilt n k false ≡ false
+unfolding rowUnbuilt
 word-built n k (inl e) = rw e
 word-built n k (inr (e, z)) = rw (e, z)
 
-row-asked : (lim : Limits) (h : Keys) (n : ℕ) (es : List Column) (v : List ℕ) → StateRow n es v → n < lim .rows → Asked lim h n State (valueOf State v)
-unfolding n11 n12 n14 n15 rowOver
+row-asked : (lim : Limits) (h : Keys) (n : ℕ) (es : List Entry) (v : List ℕ) → StateRow n es v → n < lim .rows → Asked lim h n State (valueOf State v)
+unfolding n11 n12 n14 n15
 row-asked lim h n es v r room =
-    let e : valueOf State v ≡ Row (r .word) false false = row-reads (r .word) es v (r .form) .1 ∙ (λ i. Row (r .word) (none-later es .1 (r .built) i) (none-over es .1 (r .ranged) i)) in
+    let e : valueOf State v ≡ Row (r .word) false false = row-reads (r .word) es v (r .form) .1 ∙ (λ i. Row (r .word) (none-unbuilt es .1 (r .built) i) (none-over es .1 (r .ranged) i)) in
     subst (Asked lim h n State) (sym e)
-    (record { again = refl; fit = refl; built = word-built n (r .word) (r .opening); ranged = lt-leb (lim .rows) n room })
+    (record { again = refl; fit = refl; built = word-built n (r .word) (r .opening); ranged = row-over lim n false ∙ lt-leb (lim .rows) n room })
 
-module _ (lim : Limits) (h : Keys) (rows : List (List Cell)) (ps qs : List Pair) (v : List ℕ) (t : Table) (held : Held h rows ps) where
+module _ (lim : Limits) (h : Keys) (rows : List (List Cell)) (ps qs : List Pair) (v : List ℕ) (t : Table) (held : HeaderKept h rows ps) where
   name-asked : Once CodeSetName NameValue (reverseAux ps (pair (keyText CodeSetName) v ∷ qs)) → Asked lim h (length rows) CodeSetName (valueOf CodeSetName v)
   unfolding n11 n12 n14 n15
   name-asked o =
@@ -304,7 +312,7 @@ module _ (lim : Limits) (h : Keys) (rows : List (List Cell)) (ps qs : List Pair)
       let z = unset (given1 (h .subchar1)) (Subchar1Of (h .subchar1)) (valuesOf SubChar1 ps) (held .0 .5) (a .0) in
       subst (Asked lim h (length rows) SubChar1) (sym (sub1-reads b v (a .1))) (record { again = flag-none (isSome (h .subchar1)) z; fit = refl; built = refl; ranged = refl })
 
-  state-asked : (ess : List (List Column)) → length ess ≤ lim .rows → StateRows 0 ess (valuesOf State (reverseAux ps (pair (keyText State) v ∷ qs))) → Asked lim h (length rows) State (valueOf State v)
+  state-asked : (ess : List (List Entry)) → length ess ≤ lim .rows → StateRows 0 ess (valuesOf State (reverseAux ps (pair (keyText State) v ∷ qs))) → Asked lim h (length rows) State (valueOf State v)
   state-asked ess room s =
       let vs : List (List ℕ) = reverse (valuesOf State ps) in
       let ws : List (List ℕ) = valuesOf State qs in
@@ -332,7 +340,7 @@ module _ (lim : Limits) (h : Keys) (rows : List (List Cell)) (ps qs : List Pair)
 present : (n : ℕ) (P : List ℕ → Type 0) (vs : List (List ℕ)) (v : List ℕ) → Slot n P vs → vs ≡ v ∷ [] → 1 ≤ n
 present n P vs v s e = by-slot (s .either)
   where
-    by-slot : Given n P vs → 1 ≤ n
+    by-slot : OnceGiven n P vs → 1 ≤ n
     by-slot (inl (z, x)) = absurd (let k : _≡_ {A = ℕ} 1 0 = ap length (sym e ∙ x) in omega arith)
     by-slot (inr (one, g)) = one
 
@@ -356,15 +364,15 @@ class-one c v q (inl (e, p)) = e
 class-one c v q (inr (e, p)) = absurd (one-class v q p)
 
 module _ (h : Keys) (rows : List (List Cell)) (ps : List Pair) (t : Table) (held : Ordered h rows ps) (y : HeaderSays ps t) where
-  row-present : pick (isSbcs (h .class)) false (eqb (length rows) 0) ≡ false
+  row-present : pick (isSbcs (h .class)) true (leb 1 (length rows)) ≡ true
   row-present = by-rows (y .rows)
     where
-      by-rows : RowsAre (y .class) (y .entries) (t .rows) → pick (isSbcs (h .class)) false (eqb (length rows) 0) ≡ false
+      by-rows : RowsAre (y .class) (y .entries) (t .rows) → pick (isSbcs (h .class)) true (leb 1 (length rows)) ≡ true
       by-rows (inl (one, e)) =
           let a = rows-long 0 (held .1 .entries) (valuesOf State ps) (held .1 .states) in
           let b = rows-long 0 (y .entries) (valuesOf State ps) (y .states) in
           let c = held .1 .counted in
-          rw (ne-eqb (length rows) 0 (λ z. omega arith)) (pick-false (isSbcs (h .class)))
+          rw (le-leb 1 (length rows) (omega arith)) (pick-true-true (isSbcs (h .class)))
       by-rows (inr (e, w, x)) =
           let o = y .quoted in
           let c = given-once (given1 (h .class)) (ClassOf (h .class)) (valuesOf ConvClass ps) (held .0 .3) (present (given1 (h .class)) (ClassOf (h .class)) (valuesOf ConvClass ps) (o .0) (held .0 .3) (o .1)) in
@@ -375,14 +383,14 @@ module _ (h : Keys) (rows : List (List Cell)) (ps : List Pair) (t : Table) (held
   unfolding n13
   nothing-absent =
       let s = held .0 in
-      chain (h .name) _ (flag-set (h .name) (present (flag (h .name)) NameValue (valuesOf CodeSetName ps) (y .name .0) (s .0) (y .name .1)))
-      (chain (isSome (h .min)) _ (flag-set (isSome (h .min)) (present (given1 (h .min)) (SizeValue (minOf h)) (valuesOf CurMin ps) (y .min .0) (s .1) (y .min .1)))
-      (chain (isSome (h .max)) _ (flag-set (isSome (h .max)) (present (given1 (h .max)) (SizeValue (maxOf h)) (valuesOf CurMax ps) (y .max .0) (s .2) (y .max .1)))
-      (chain (isSome (h .class)) _
+      ap not (and-yes (h .name) _ (flag-set (h .name) (present (flag (h .name)) NameValue (valuesOf CodeSetName ps) (y .name .0) (s .0) (y .name .1)))
+      (and-yes (isSome (h .min)) _ (flag-set (isSome (h .min)) (present (given1 (h .min)) (SizeValue (minOf h)) (valuesOf CurMin ps) (y .min .0) (s .1) (y .min .1)))
+      (and-yes (isSome (h .max)) _ (flag-set (isSome (h .max)) (present (given1 (h .max)) (SizeValue (maxOf h)) (valuesOf CurMax ps) (y .max .0) (s .2) (y .max .1)))
+      (and-yes (isSome (h .class)) _
       (flag-set (isSome (h .class)) (present (given1 (h .class)) (ClassOf (h .class)) (valuesOf ConvClass ps) (y .quoted .0) (s .3) (y .quoted .1)))
-      (chain (isSome (h .subchar)) _
+      (and-yes (isSome (h .subchar)) _
       (flag-set (isSome (h .subchar)) (present (given1 (h .subchar)) (SubcharValue (subcharOf h)) (valuesOf SubChar ps) (y .subchar .0) (s .4) (y .subchar .1)))
-      row-present))))
+      row-present)))))
 
 -- ## One header says one table
 
@@ -400,7 +408,7 @@ one-sub c d ps (v, e, f) (w, g, i) =
     let k : Sub (packed c) (length c) ≡ Sub (packed d) (length d) = sym (sub-reads c v f) ∙ sub-reads d v j in
     let p : packed c ≡ packed d = cc in
     let n : length c ≡ length d = cc in
-    pack-one-way c d (bytes-are c v (f .1)) (bytes-are d v (j .1)) n (f .0) p
+    pack-one-way c d (BytesValue⇒AllByte c v (f .1)) (BytesValue⇒AllByte d v (j .1)) n (f .0) p
 
 once-none : (k : Key) (P : List ℕ → Type 0) (ps : List Pair) → Once k P ps → valuesOf k ps ≡ [] → ⊥
 once-none k P ps (v, e, f) z = let n : _≡_ {A = ℕ} 1 0 = ap length (sym e ∙ z) in omega arith
@@ -414,7 +422,7 @@ one-sub1 (some a) (some b) ps (v, e, f) (w, g, i) =
     let n : a ≡ b = cc in
     ap some n
 
-one-entries : (n : ℕ) (a b : List (List Column)) (vs : List (List ℕ)) → StateRows n a vs → StateRows n b vs → a ≡ b
+one-entries : (n : ℕ) (a b : List (List Entry)) (vs : List (List ℕ)) → StateRows n a vs → StateRows n b vs → a ≡ b
 one-entries n [] [] vs s r = refl
 one-entries n [] (y ∷ b) [] s r = absurd r
 one-entries n [] (y ∷ b) (v ∷ vs) s r = absurd s
@@ -426,7 +434,7 @@ one-entries n (x ∷ a) (y ∷ b) (v ∷ vs) s r =
     let f = one-entries (n + 1) a b vs (s .1) (r .1) in
     λ i. e i ∷ f i
 
-one-rows : (a b : List (List Column)) (c d : List ℕ) (rows other : List (List Cell)) → a ≡ b → RowsAre c a rows → RowsAre d b other → rows ≡ other
+one-rows : (a b : List (List Entry)) (c d : List ℕ) (rows other : List (List Cell)) → a ≡ b → RowsAre c a rows → RowsAre d b other → rows ≡ other
 one-rows a b c d rows other e (inl (one, r)) (inl (two, s)) = r ∙ ap (map rowOf) e ∙ sym s
 one-rows a b c d rows other e (inl (one, r)) (inr (z, w, s)) = absurd (let n : length a ≡ 0 = ap length (e ∙ z) in omega arith)
 one-rows a b c d rows other e (inr (z, w, r)) (inl (two, s)) = absurd (let n : length b ≡ 0 = ap length (sym e ∙ z) in omega arith)

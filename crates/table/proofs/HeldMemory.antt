@@ -6,8 +6,8 @@ use mathlib.Core.List.{List}
 use lib.ListN.{length}
 use Rattle.table.specs.Limits.{Limits, limits}
 use Rattle.table.specs.States.{longest, stepAt, cutOf, endKind}
-use Rattle.table.specs.Codes.{after, bytesOf, firstCode, nextOf, AllByte}
-use Rattle.table.specs.Marks.{marksOf, nextMarked}
+use Rattle.table.specs.Codes.{bytesOf, firstCode, nextOf, AllByte}
+use Rattle.table.specs.loops.Marks.{marksOf, nextMarked}
 use Rattle.table.specs.Meaning.{Table, stepsOf}
 use Rattle.table.specs.Slices.{Slices}
 use Rattle.table.specs.Memory.{tableIn}
@@ -20,7 +20,9 @@ use Rattle.table.proofs.Packing.{unpacked-bytes}
 use Rattle.table.proofs.CodeList.{codes-agree}
 use Rattle.table.proofs.Marks.{next-marked}
 use Rattle.table.proofs.StoreLaws.{ok-codes, ok-infos}
-use Rattle.table.proofs.ValidLaws.{tested, record-kept, states-say}
+use Rattle.table.proofs.NumbersBack.{states-say}
+use Rattle.table.proofs.TestParts.{tested, recordOk⇒RecordKept}
+use Rattle.lists.specs.Strings.{after}
 
 module _ (lim : Limits) (rec : Record) (m : Slices) (ok : valid lim rec m ≡ true) where
   abbrev held : Table
@@ -31,7 +33,7 @@ module _ (lim : Limits) (rec : Record) (m : Slices) (ok : valid lim rec m ≡ tr
   unfolding tableIn
   steps-held =
       let k = tested lim rec m ok in
-      let few = record-kept lim rec (k .rec-ok) .most-rows in
+      let few = recordOk⇒RecordKept lim rec (k .rec-ok) .most-rows in
       let a = needed-agree lim (rec .rows) (m .states) few (k .states-ok) in
       record {
         same = λ r b hr hb. a .same r b hr hb ∙ (λ i. states-say lim (rec .rows) (m .states) few (k .states-ok) i r b);

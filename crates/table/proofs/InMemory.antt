@@ -9,25 +9,32 @@ use lib.Seq.{take-at, drop-at}
 use borrow.Author.Tests.{eq-eqb, eqb-true}
 use Rattle.lists.specs.Pick.{pick}
 use Rattle.lists.specs.Order.{All, Pairs, In}
-use Rattle.lists.proofs.Laws.{clash, both, both-left, both-right}
-use Rattle.lists.proofs.Chains.{bar-first, bar-rest}
-use Rattle.lists.proofs.Order.{all-in, all-both, map-in, in-map, sort-in, in-sort, first-same}
-use Rattle.lists.proofs.Pairs.{pairs-one}
+use Rattle.lists.proofs.Laws.{clash, and-yes, and-left, and-right}
+use Rattle.lists.proofs.Chains.{unless-left, unless-right}
+use Rattle.lists.proofs.Order.{All-In⁻, All-×⁺, In-map⁺, In-map⁻, In-sort⁻, In-sort⁺, firstOf-unique}
+use Rattle.lists.proofs.Pairs.{Pairs-unique}
 use Rattle.table.specs.Limits.{Limits, needed}
 use Rattle.table.specs.Cells.{Cell, cellIn}
 use Rattle.table.specs.Codes.{bytesOf}
-use Rattle.table.specs.Meaning.{Line, Table, flat, same, isRead, isWritten, reader, writer}
-use Rattle.table.specs.Rules.{anyOf, sharesBytes, sharesPoint, t9, Keeps}
-use Rattle.table.specs.Entry.{entryOf, lineIn, less}
+use Rattle.table.specs.Meaning.{Line, Table, flat, isRead, decidesPoint, reader, writer}
+use Rattle.table.specs.Rules.{sharesBytes, sharesPoint, t9, Keeps}
+use Rattle.table.specs.Stored.{storedOf, lineIn, less}
 use Rattle.table.specs.Slices.{Slices}
-use Rattle.table.specs.Memory.{sorted, filled, numbersOf, sub1In, recordOf, pieces, tableIn, Form, Proper, linesIn}
+use Rattle.table.specs.Memory.{sorted, numbersOf, sub1In, recordOf, pieces, tableIn, Form, Proper, linesIn}
 use Rattle.table.specs.declared.valid.Record.{Record}
-use Rattle.table.proofs.CellLaws.{cells-back}
-use Rattle.table.proofs.Packing.{unpack}
-use Rattle.table.proofs.Every.{none-of}
-use Rattle.table.specs.Progress.{GoodLine}
-use Rattle.table.proofs.LineLaws.{line-entry, keeps-good, form-held, same-is, is-same}
-use Rattle.table.proofs.ValidLaws.{SameTable, sub-length, back-sub1}
+use Rattle.table.proofs.CellLaws.{map-cellIn-cellNumber}
+use Rattle.table.proofs.Packing.{unpacked-packed}
+use Rattle.table.specs.loops.Progress.{GoodLine}
+use Rattle.table.proofs.FormLines.{keeps-good, entries-Form}
+use Rattle.table.proofs.StoredLine.{line-stored}
+use Rattle.lists.proofs.Strings.{same⇒≡, same-refl}
+use Rattle.table.specs.Forms.{SameTable}
+use Rattle.table.proofs.FormTested.{sub-length}
+use Rattle.table.proofs.NumbersBack.{sub1In-sub1Of}
+use Rattle.lists.specs.Strings.{same}
+use Rattle.lists.specs.Tests.{anyOf}
+use Rattle.lists.specs.Place.{filled}
+use Rattle.lists.proofs.Tests.{anyOf-no⁻}
 
 -- rows put one behind the other, and cut again
 pieces-flat : (rows : List (List Cell)) (rest : List Cell) → All (λ r. length r ≡ 256) rows → pieces (length rows) (flat rows ++ rest) ≡ rows
@@ -46,20 +53,20 @@ pieces-filled limit rows l h e =
     let whole : l ≡ numbersOf rows ++ rest =
     sym (take-append-drop limit l) ∙ ap (λ (x : List ℕ). x ++ drop limit l) e ∙ append-assoc (numbersOf rows) (replicate (limit - length (numbersOf rows)) 0) (drop limit l) in
     let cells : map cellIn l ≡ flat rows ++ map cellIn rest =
-    ap (map cellIn) whole ∙ map-append cellIn (numbersOf rows) rest ∙ ap (λ (x : List Cell). x ++ map cellIn rest) (cells-back (flat rows)) in
+    ap (map cellIn) whole ∙ map-append cellIn (numbersOf rows) rest ∙ ap (λ (x : List Cell). x ++ map cellIn rest) (map-cellIn-cellNumber (flat rows)) in
     ap (pieces (length rows)) cells ∙ pieces-flat rows (map cellIn rest) h
 
 -- lines stored and taken out again
 stored-there : (ls : List Line) → All GoodLine ls → (l : Line) → In l (map lineIn (sorted ls)) → In l ls
 stored-there ls gs l i =
-    let a = in-map lineIn l (sorted ls) i in
-    let b = in-map entryOf (a .0) ls (sort-in less (a .0) (map entryOf ls) (a .1 .0)) in
-    subst (λ (x : Line). In x ls) (sym (a .1 .1 ∙ ap lineIn (b .1 .1) ∙ line-entry (b .0) (all-in GoodLine (b .0) ls gs (b .1 .0)))) (b .1 .0)
+    let a = In-map⁻ lineIn l (sorted ls) i in
+    let b = In-map⁻ storedOf (a .0) ls (In-sort⁻ less (a .0) (map storedOf ls) (a .1 .0)) in
+    subst (λ (x : Line). In x ls) (sym (a .1 .1 ∙ ap lineIn (b .1 .1) ∙ line-stored (b .0) (All-In⁻ GoodLine (b .0) ls gs (b .1 .0)))) (b .1 .0)
 
 stored-back : (ls : List Line) → All GoodLine ls → (l : Line) → In l ls → In l (map lineIn (sorted ls))
 stored-back ls gs l i =
-    subst (λ (x : Line). In x (map lineIn (sorted ls))) (line-entry l (all-in GoodLine l ls gs i))
-    (map-in lineIn (entryOf l) (sorted ls) (in-sort less (entryOf l) (map entryOf ls) (map-in entryOf l ls i)))
+    subst (λ (x : Line). In x (map lineIn (sorted ls))) (line-stored l (All-In⁻ GoodLine l ls gs i))
+    (In-map⁺ lineIn (storedOf l) (sorted ls) (In-sort⁺ less (storedOf l) (map storedOf ls) (In-map⁺ storedOf l ls i)))
 
 -- a memory in the form of t holds a table of the same meaning
 module _ (lim : Limits) (t : Table) (p : Proper t) (k : Keeps lim t) (rec : Record) (m : Slices) (f : Form lim t rec m) where
@@ -68,7 +75,7 @@ module _ (lim : Limits) (t : Table) (p : Proper t) (k : Keeps lim t) (rec : Reco
 
   lines-are : tableIn rec m .lines ≡ map lineIn (sorted (t .lines))
   unfolding tableIn linesIn
-  lines-are = ap (map lineIn) (form-held lim t p k rec m f)
+  lines-are = ap (map lineIn) (entries-Form lim t p k rec m f)
 
   rows-are : tableIn rec m .rows ≡ t .rows
   unfolding tableIn recordOf
@@ -84,14 +91,14 @@ module _ (lim : Limits) (t : Table) (p : Proper t) (k : Keeps lim t) (rec : Reco
 
   subchar-is : tableIn rec m .subchar ≡ t .subchar
   unfolding tableIn recordOf
-  subchar-is = ap (λ (r : Record). bytesOf (r .subchar)) (f .record-is) ∙ unpack (t .subchar) (p .sub-bytes) (sub-length lim t p k rec m f .1)
+  subchar-is = ap (λ (r : Record). bytesOf (r .subchar)) (f .record-is) ∙ unpacked-packed (t .subchar) (p .sub-bytes) (sub-length lim t p k rec m f .1)
 
   subchar1-is : tableIn rec m .subchar1 ≡ t .subchar1
   unfolding tableIn recordOf
-  subchar1-is = ap (λ (r : Record). sub1In (r .subchar1)) (f .record-is) ∙ back-sub1 (t .subchar1)
+  subchar1-is = ap (λ (r : Record). sub1In (r .subchar1)) (f .record-is) ∙ sub1In-sub1Of (t .subchar1)
 
-  pub held-same : SameTable (tableIn rec m) t
-  held-same = record {
+  pub SameTable-tableIn : SameTable (tableIn rec m) t
+  SameTable-tableIn = record {
     same-rows = rows-are;
     same-min = min-is;
     same-max = max-is;
@@ -111,32 +118,32 @@ t9-pairs [] h = tt
 t9-pairs (l ∷ ls) h =
     let b = anyOf (λ x. sharesBytes x l) ls in
     let p = anyOf (λ x. sharesPoint x l) ls in
-    let r = bar-rest b _ h in (
-      all-both (λ x. sharesBytes x l ≡ false) (λ x. sharesPoint x l ≡ false) ls (none-of (λ x. sharesBytes x l) ls (bar-first b _ h)) (none-of (λ x. sharesPoint x l) ls (bar-first p (t9 ls) r)),
-      t9-pairs ls (bar-rest p (t9 ls) r),
+    let r = unless-right b _ h in (
+      All-×⁺ (λ x. sharesBytes x l ≡ false) (λ x. sharesPoint x l ≡ false) ls (anyOf-no⁻ (λ x. sharesBytes x l) ls (unless-left b _ h)) (anyOf-no⁻ (λ x. sharesPoint x l) ls (unless-left p (t9 ls) r)),
+      t9-pairs ls (unless-right p (t9 ls) r),
     )
 
 -- two lines that read one code share bytes, and two that write one code point share it
 reads-share : (c : List ℕ) (a b : Line) → pick (isRead a) (same (a .code) c) false ≡ true → pick (isRead b) (same (b .code) c) false ≡ true → sharesBytes b a ≡ true
 reads-share c a b u v =
-    both (isRead b) _ (both-left (isRead b) _ v)
-    (both (isRead a) _ (both-left (isRead a) _ u)
-    (subst (λ (s : List ℕ). same (b .code) s ≡ true) (same-is (b .code) c (both-right (isRead b) _ v) ∙ sym (same-is (a .code) c (both-right (isRead a) _ u))) (is-same (b .code))))
+    and-yes (isRead b) _ (and-left (isRead b) _ v)
+    (and-yes (isRead a) _ (and-left (isRead a) _ u)
+    (subst (λ (s : List ℕ). same (b .code) s ≡ true) (same⇒≡ (b .code) c (and-right (isRead b) _ v) ∙ sym (same⇒≡ (a .code) c (and-right (isRead a) _ u))) (same-refl (b .code))))
 
-writes-share : (c : ℕ) (a b : Line) → pick (isWritten a) (eqb (a .point) c) false ≡ true → pick (isWritten b) (eqb (b .point) c) false ≡ true → sharesPoint b a ≡ true
+writes-share : (c : ℕ) (a b : Line) → pick (decidesPoint a) (eqb (a .point) c) false ≡ true → pick (decidesPoint b) (eqb (b .point) c) false ≡ true → sharesPoint b a ≡ true
 writes-share c a b u v =
-    both (isWritten b) _ (both-left (isWritten b) _ v)
-    (both (isWritten a) _ (both-left (isWritten a) _ u)
-    (eq-eqb (b .point) (a .point) (eqb-true (b .point) c (both-right (isWritten b) _ v) ∙ sym (eqb-true (a .point) c (both-right (isWritten a) _ u)))))
+    and-yes (decidesPoint b) _ (and-left (decidesPoint b) _ v)
+    (and-yes (decidesPoint a) _ (and-left (decidesPoint a) _ u)
+    (eq-eqb (b .point) (a .point) (eqb-true (b .point) c (and-right (decidesPoint b) _ v) ∙ sym (eqb-true (a .point) c (and-right (decidesPoint a) _ u)))))
 
 -- the order of lines does not matter to look-up
 module _ (t u : Table) (s : SameTable u t) (h : t9 (t .lines) ≡ true) where
   pub same-reader : (c : List ℕ) → reader c (u .lines) ≡ reader c (t .lines)
   same-reader c =
       let f : Line → Bool = λ l. pick (isRead l) (same (l .code) c) false in
-      first-same f (u .lines) (t .lines) (s .there) (s .back) (pairs-one f Differ (λ a b p q d. clash (reads-share c a b p q) (d .0)) (t .lines) (t9-pairs (t .lines) h))
+      firstOf-unique f (u .lines) (t .lines) (s .there) (s .back) (Pairs-unique f Differ (λ a b p q d. clash (reads-share c a b p q) (d .0)) (t .lines) (t9-pairs (t .lines) h))
 
   pub same-writer : (c : ℕ) → writer c (u .lines) ≡ writer c (t .lines)
   same-writer c =
-      let f : Line → Bool = λ l. pick (isWritten l) (eqb (l .point) c) false in
-      first-same f (u .lines) (t .lines) (s .there) (s .back) (pairs-one f Differ (λ a b p q d. clash (writes-share c a b p q) (d .1)) (t .lines) (t9-pairs (t .lines) h))
+      let f : Line → Bool = λ l. pick (decidesPoint l) (eqb (l .point) c) false in
+      firstOf-unique f (u .lines) (t .lines) (s .there) (s .back) (Pairs-unique f Differ (λ a b p q d. clash (writes-share c a b p q) (d .1)) (t .lines) (t9-pairs (t .lines) h))

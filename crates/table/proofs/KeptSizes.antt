@@ -7,7 +7,7 @@ use native.Mathlib.Omega.{arith}
 use lib.Dec.{leb}
 use lib.ListN.{length}
 use borrow.Author.Tests.{leb-true}
-use Rattle.lists.proofs.Laws.{both-left, both-right}
+use Rattle.lists.proofs.Laws.{and-left, and-right}
 use Rattle.table.specs.Limits.{Limits}
 use Rattle.table.specs.States.{longest, endKind}
 use Rattle.table.specs.Codes.{AllByte}
@@ -21,19 +21,19 @@ pub record Sizes (min max : ℕ) : Type 0 where
   pub ordered : min ≤ max
   pub most : max ≤ longest
 
-pub sizes-kept : (min max : ℕ) → t1Sizes min max ≡ true → Sizes min max
-sizes-kept min max h =
-    let h1 = both-right (leb 1 min) _ h in
+pub t1Sizes⇒Sizes : (min max : ℕ) → t1Sizes min max ≡ true → Sizes min max
+t1Sizes⇒Sizes min max h =
+    let h1 = and-right (leb 1 min) _ h in
     record {
-      least = leb-true 1 min (both-left (leb 1 min) _ h);
-      ordered = leb-true min max (both-left (leb min max) _ h1);
-      most = leb-true max 4 (both-right (leb min max) _ h1);
+      least = leb-true 1 min (and-left (leb 1 min) _ h);
+      ordered = leb-true min max (and-left (leb min max) _ h1);
+      most = leb-true max 4 (and-right (leb min max) _ h1);
     }
 
 -- a table that keeps the rules
 module _ (lim : Limits) (t : Table) (k : Keeps lim t) where
   pub kept-sizes : Sizes (t .min) (t .max)
-  kept-sizes = sizes-kept (t .min) (t .max) (k .rule1-sizes)
+  kept-sizes = t1Sizes⇒Sizes (t .min) (t .max) (k .rule1-sizes)
 
   pub kept-short : (s : List ℕ) → AllByte s → (endKind (stepsOf t) 0 s ≡ 0 → ⊥) → length s ≤ longest
   kept-short s b e = let h = short-code (stepsOf t) (t .max) 0 s (k .rule3) b e in omega (arith, kept-sizes .most)

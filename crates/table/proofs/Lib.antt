@@ -5,7 +5,6 @@ pub mod Cuts
 pub mod KeptSizes
 pub mod Packing
 mod Marking
-pub mod CodeOrder
 pub mod CodeList
 pub mod CodeCount
 pub mod Between
@@ -14,15 +13,29 @@ pub mod TextLaws
 pub mod LinesLaws
 pub mod MappingLaws
 pub mod MappingCases
-pub mod Every
-pub mod EntryLaws
-pub mod Sorted
+mod StoredLaws
+mod EntryTests
+mod Entries
+mod IndexOrder
+mod Sorted
+mod TestLoops
+mod Places
+mod Finding
 pub mod Inserted
-pub mod StoreLaws
+mod StoreLaws
+mod Taken
 pub mod Ranks
-pub mod LineLaws
+mod LineLaws
+pub mod StoredLine
+mod LineClashes
+pub mod FormLines
+mod TestParts
+mod NumbersBack
+mod ReadForm
+pub mod FormTested
 pub mod ValidLaws
 pub mod RowText
+mod OneMore
 pub mod HeaderLaws
 pub mod KeyLaws
 pub mod HeaderCases
@@ -60,6 +73,5 @@ pub mod LineSteps
 pub mod HeaderSteps
 pub mod MappingSteps
 pub mod RunSteps
-pub mod LoadLaws
-pub mod FoundLines
+mod FoundLines
 pub mod LookupLaws

@@ -1,27 +1,16 @@
 -- The lines of a text, taken apart at the first.
 use mathlib.Core.Path.{_≡_, refl}
 use mathlib.Core.Bool.{Bool, true, false}
-use mathlib.Core.List.{List, [], _∷_, _++_}
-use Prim.Native.Nat.{ℕ, suc, _+_, _-_, _<_, _≤_}
-use native.Mathlib.Nat.{sub-self}
+use mathlib.Core.List.{List, [], _∷_}
+use Prim.Native.Nat.{ℕ, _-_, _<_, _≤_}
 use native.Mathlib.Omega.{arith}
-use lib.ListN.{length, getD, take, drop, length-drop}
-use lib.Seq.{take-suc, append-snoc, getD-drop}
+use lib.ListN.{length, take, drop}
 use lib.Dec.{eqb}
 use Rattle.lists.specs.Pick.{pick}
-use Rattle.lists.proofs.Laws.{drop-step, drop-end, clash, both-right}
-use Rattle.table.specs.Text.{crBefore, onto, linesOf, firstLine, restLines}
-
--- one byte more of a part that starts at a position
-pub part-more : (s r : List ℕ) (at i : ℕ) → at ≤ i → i < length s → take (i + 1 - at) (drop at s) ++ r ≡ take (i - at) (drop at s) ++ getD s i 0 ∷ r
-part-more s r at i le lt =
-    let e : i + 1 - at ≡ suc (i - at) = omega arith in
-    let k : at + (i - at) ≡ i = omega arith in
-    let h : i - at < length (drop at s) = omega (arith, length-drop at s) in
-    rw (e, take-suc (drop at s) (i - at) 0 h, append-snoc, getD-drop at s (i - at) 0, k)
-
-pub part-none : (s r : List ℕ) (at : ℕ) → take (at - at) (drop at s) ++ r ≡ r
-part-none s r at = rw sub-self
+use Rattle.lists.proofs.Laws.{drop-∷, drop-past, clash, and-right}
+use Rattle.table.specs.Text.{crBefore, linesOf}
+use Rattle.lists.specs.Strings.{onto}
+use Rattle.table.specs.loops.Coded.{firstLine, restLines}
 
 pub not-cr : (b : ℕ) (bs : List ℕ) → eqb b 13 ≡ false → crBefore b bs ≡ false
 unfolding crBefore
@@ -32,12 +21,12 @@ not-cr b (d ∷ ds) h = rw h
 pub cr-first : (b : ℕ) (l : List ℕ) → crBefore b l ≡ true → firstLine l ≡ []
 unfolding crBefore firstLine
 cr-first b [] e = absurd (clash e refl)
-cr-first b (d ∷ ds) e = rw (both-right (eqb b 13) (eqb d 10) e)
+cr-first b (d ∷ ds) e = rw (and-right (eqb b 13) (eqb d 10) e)
 
 pub cr-rest : (b : ℕ) (l : List ℕ) → crBefore b l ≡ true → restLines l ≡ drop 1 l
 unfolding crBefore restLines
 cr-rest b [] e = absurd (clash e refl)
-cr-rest b (d ∷ ds) e = rw (both-right (eqb b 13) (eqb d 10) e)
+cr-rest b (d ∷ ds) e = rw (and-right (eqb b 13) (eqb d 10) e)
 
 pub cr-more : (b : ℕ) (l : List ℕ) → crBefore b l ≡ true → 1 ≤ length l
 unfolding crBefore
@@ -60,17 +49,17 @@ pub lines-none : linesOf [] ≡ []
 unfolding linesOf
 lines-none = refl
 
-pub lines-step : (b : ℕ) (bs : List ℕ) → linesOf (b ∷ bs) ≡ firstLine (b ∷ bs) ∷ linesOf (restLines (b ∷ bs))
+lines-step : (b : ℕ) (bs : List ℕ) → linesOf (b ∷ bs) ≡ firstLine (b ∷ bs) ∷ linesOf (restLines (b ∷ bs))
 unfolding linesOf firstLine restLines crBefore onto
 lines-step b [] = last-pick (eqb b 10) b
 lines-step b (d ∷ ds) = lines-pick (eqb b 10) (crBefore b (d ∷ ds)) b (d ∷ ds) (lines-step d ds)
 
 -- the same from a place on
-pub lines-at : (s : List ℕ) (at : ℕ) → at < length s → linesOf (drop at s) ≡ firstLine (drop at s) ∷ linesOf (restLines (drop at s))
-lines-at s at h = rw (drop-step s at h) (lines-step _ _)
+lines-at : (s : List ℕ) (at : ℕ) → at < length s → linesOf (drop at s) ≡ firstLine (drop at s) ∷ linesOf (restLines (drop at s))
+lines-at s at h = rw (drop-∷ s at h) (lines-step _ _)
 
 pub lines-end : (s : List ℕ) (at : ℕ) → length s ≤ at → linesOf (drop at s) ≡ []
-lines-end s at h = rw (drop-end s at h) lines-none
+lines-end s at h = rw (drop-past s at h) lines-none
 
 -- and as the first line is cut out
 pub lines-cut : (s : List ℕ) (at stop next : ℕ) → at < length s → take (stop - at) (drop at s) ≡ firstLine (drop at s) → drop next s ≡ restLines (drop at s)

@@ -11,16 +11,17 @@ use borrow.Author.Tests.{ne-eqb, eqb-true, eqb-false}
 use Rattle.lists.specs.Pick.{pick}
 use Rattle.lists.specs.Order.{All}
 use Rattle.lists.proofs.Cases.{pick-case}
-use Rattle.lists.proofs.Choice.{pick-false}
-use Rattle.lists.proofs.Laws.{clash, both-left, both-right}
-use Rattle.table.specs.Text.{crBefore, onto, linesOf}
+use Rattle.lists.proofs.Choice.{pick-false-false}
+use Rattle.lists.proofs.Laws.{clash, and-left, and-right}
+use Rattle.table.specs.Text.{crBefore, linesOf}
+use Rattle.lists.specs.Strings.{onto}
 use Rattle.table.specs.Grammar.{EndsPlain, WithEnd, Lines}
 use Rattle.table.proofs.LinesLaws.{lines-none}
 
 -- no CR that belongs to an end
 not-ten : (b d : ℕ) (r : List ℕ) → (d ≡ 10 → ⊥) → crBefore b (d ∷ r) ≡ false
 unfolding crBefore
-not-ten b d r n = rw (ne-eqb d 10 n, pick-false (eqb b 13))
+not-ten b d r n = rw (ne-eqb d 10 n, pick-false-false (eqb b 13))
 
 line-lf : (l t : List ℕ) → All (λ b. b ≡ 10 → ⊥) l → EndsPlain l → linesOf (l ++ (10 ∷ t)) ≡ l ∷ linesOf t
 unfolding linesOf onto crBefore
@@ -73,7 +74,7 @@ ten-lines d s e = rw e
 
 cr-is : (b d : ℕ) (s : List ℕ) → crBefore b (d ∷ s) ≡ true → (b ≡ 13) × (d ≡ 10)
 unfolding crBefore
-cr-is b d s e = (eqb-true b 13 (both-left (eqb b 13) (eqb d 10) e), eqb-true d 10 (both-right (eqb b 13) (eqb d 10) e))
+cr-is b d s e = (eqb-true b 13 (and-left (eqb b 13) (eqb d 10) e), eqb-true d 10 (and-right (eqb b 13) (eqb d 10) e))
 
 line-cr : (b d : ℕ) (s : List ℕ) → (b ≡ 13) × (d ≡ 10) → Lines (linesOf s) s → Lines (linesOf (d ∷ s)) (b ∷ d ∷ s)
 line-cr b d s (e, k) h =

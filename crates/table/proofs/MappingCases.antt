@@ -1,60 +1,62 @@
--- Lines behind CHARMAP, computed.
+-- Lines after CHARMAP, computed.
 use mathlib.Core.Path.{_≡_, refl}
-use mathlib.Core.List.{List, [], _∷_, map}
+use mathlib.Core.List.{List, [], _∷_, _++_, map}
 use Prim.Native.Nat.{ℕ}
-use Rattle.table.specs.Text.{digitOf, skipOf, begins, endsAt, byteAt, hexOf, unicodeAt, joinAt, bytesMore, bytesAt, isCharmap}
-use Rattle.table.specs.Mapping.{Form, noForm, reserved, blank, ending, mapping, pointsMore, indicatorAt, indicatorForm, bytesForm, pointsForm, mappingForm, isEnd, formAt, mappedOf, lastAt, lastOf}
+use Rattle.lists.specs.Ascii.{ascii}
+use Rattle.table.specs.Text.{digitOf, skipOf, endsAt, byteAt, pointDigits, unicodeAt, joinAt, bytesMore, bytesAt, isCharmap}
+use Rattle.lists.specs.Strings.{begins}
+use Rattle.table.specs.Mapping.{BodyLine, noForm, reserved, blank, ending, mapping, pointsMore, indicatorAt, indicatorForm, bytesForm, pointsForm, mappingForm, isEnd, bodyLineAt, bodyLineOf, afterEndAt, afterEndOf}
 
 abbrev texts : List (List ℕ)
 texts =
-    (60 ∷ 85 ∷ 48 ∷ 48 ∷ 50 ∷ 68 ∷ 62 ∷ 32 ∷ 92 ∷ 120 ∷ 50 ∷ 68 ∷ 32 ∷ 124 ∷ 48 ∷ []) ∷  -- <U002D> \x2D |0
-    (60 ∷ 85 ∷ 48 ∷ 48 ∷ 51 ∷ 48 ∷ 62 ∷ 32 ∷ 92 ∷ 120 ∷ 51 ∷ 48 ∷ 32 ∷ 124 ∷ 48 ∷ []) ∷  -- <U0030> \x30 |0
-    (60 ∷ 85 ∷ 48 ∷ 48 ∷ 51 ∷ 51 ∷ 62 ∷ 32 ∷ 92 ∷ 120 ∷ 51 ∷ 51 ∷ 32 ∷ 124 ∷ 48 ∷ []) ∷  -- <U0033> \x33 |0
-    (60 ∷ 85 ∷ 50 ∷ 50 ∷ 49 ∷ 50 ∷ 62 ∷ 32 ∷ 92 ∷ 120 ∷ 56 ∷ 49 ∷ 92 ∷ 120 ∷ 55 ∷ 67 ∷ 32 ∷ 124 ∷ 48 ∷ []) ∷  -- <U2212> \x81\x7C |0
-    (60 ∷ 85 ∷ 70 ∷ 70 ∷ 48 ∷ 68 ∷ 62 ∷ 32 ∷ 92 ∷ 120 ∷ 56 ∷ 49 ∷ 92 ∷ 120 ∷ 55 ∷ 67 ∷ 32 ∷ 124 ∷ 49 ∷ []) ∷  -- <UFF0D> \x81\x7C |1
-    (60 ∷ 85 ∷ 50 ∷ 50 ∷ 49 ∷ 50 ∷ 62 ∷ 32 ∷ 92 ∷ 120 ∷ 56 ∷ 49 ∷ 92 ∷ 120 ∷ 55 ∷ 68 ∷ 32 ∷ 124 ∷ 51 ∷ []) ∷  -- <U2212> \x81\x7D |3
-    (32 ∷ 9 ∷ 60 ∷ 85 ∷ 52 ∷ 49 ∷ 62 ∷ 9 ∷ 32 ∷ 92 ∷ 120 ∷ 56 ∷ 49 ∷ 32 ∷ 9 ∷ 92 ∷ 120 ∷ 55 ∷ 99 ∷ 9 ∷ 124 ∷ 50 ∷ 32 ∷ 9 ∷ []) ∷  --  \t<U41>\t \x81 \t\x7c\t|2 \t
-    (60 ∷ 85 ∷ 102 ∷ 102 ∷ 48 ∷ 100 ∷ 62 ∷ 92 ∷ 120 ∷ 56 ∷ 49 ∷ 92 ∷ 120 ∷ 55 ∷ 99 ∷ 124 ∷ 49 ∷ []) ∷  -- <Uff0d>\x81\x7c|1
-    (60 ∷ 85 ∷ 49 ∷ 48 ∷ 70 ∷ 70 ∷ 70 ∷ 70 ∷ 62 ∷ 32 ∷ 92 ∷ 120 ∷ 52 ∷ 49 ∷ 32 ∷ 124 ∷ 48 ∷ 32 ∷ 35 ∷ 32 ∷ 99 ∷ 97 ∷ 102 ∷ 195 ∷ 169 ∷ 32 ∷ 124 ∷ 52 ∷ []) ∷  -- <U10FFFF> \x41 |0 # caf\c3\a9 |4
-    (60 ∷ 85 ∷ 52 ∷ 49 ∷ 62 ∷ 32 ∷ 92 ∷ 120 ∷ 52 ∷ 49 ∷ 35 ∷ []) ∷  -- <U41> \x41#
-    (60 ∷ 85 ∷ 52 ∷ 49 ∷ 62 ∷ 32 ∷ 92 ∷ 120 ∷ 52 ∷ 49 ∷ []) ∷  -- <U41> \x41
-    (60 ∷ 85 ∷ 52 ∷ 49 ∷ 62 ∷ 32 ∷ 92 ∷ 120 ∷ 48 ∷ 49 ∷ 92 ∷ 120 ∷ 48 ∷ 50 ∷ 92 ∷ 120 ∷ 48 ∷ 51 ∷ 92 ∷ 120 ∷ 48 ∷ 52 ∷ 92 ∷ 120 ∷ 48 ∷ 53 ∷ 32 ∷ 124 ∷ 48 ∷ []) ∷  -- <U41> \x01\x02\x03\x04\x05 |0
+    ascii "<U002D> \\x2D |0" ∷
+    ascii "<U0030> \\x30 |0" ∷
+    ascii "<U0033> \\x33 |0" ∷
+    ascii "<U2212> \\x81\\x7C |0" ∷
+    ascii "<UFF0D> \\x81\\x7C |1" ∷
+    ascii "<U2212> \\x81\\x7D |3" ∷
+    ascii " \t<U41>\t \\x81 \t\\x7c\t|2 \t" ∷
+    ascii "<Uff0d>\\x81\\x7c|1" ∷
+    (ascii "<U10FFFF> \\x41 |0 # caf" ++ (0xc3 ∷ 0xa9 ∷ ascii " |4")) ∷
+    ascii "<U41> \\x41#" ∷
+    ascii "<U41> \\x41" ∷
+    ascii "<U41> \\x01\\x02\\x03\\x04\\x05 |0" ∷
     [] ∷  -- the empty line
-    (32 ∷ 9 ∷ 35 ∷ 32 ∷ 128 ∷ []) ∷  --  \t# \80
-    (60 ∷ 85 ∷ 52 ∷ 49 ∷ 62 ∷ 32 ∷ 92 ∷ 120 ∷ 52 ∷ 49 ∷ 32 ∷ 124 ∷ 52 ∷ []) ∷  -- <U41> \x41 |4
-    (60 ∷ 85 ∷ 52 ∷ 49 ∷ 62 ∷ 60 ∷ 85 ∷ 52 ∷ 50 ∷ 62 ∷ 32 ∷ 92 ∷ 120 ∷ 52 ∷ 49 ∷ 32 ∷ 124 ∷ 48 ∷ []) ∷  -- <U41><U42> \x41 |0
-    (60 ∷ 85 ∷ 52 ∷ 49 ∷ 62 ∷ 32 ∷ 43 ∷ 32 ∷ 60 ∷ 85 ∷ 52 ∷ 50 ∷ 62 ∷ 43 ∷ 60 ∷ 85 ∷ 52 ∷ 51 ∷ 62 ∷ 32 ∷ 92 ∷ 120 ∷ 52 ∷ 49 ∷ 32 ∷ 124 ∷ 48 ∷ []) ∷  -- <U41> + <U42>+<U43> \x41 |0
-    (60 ∷ 85 ∷ 52 ∷ 49 ∷ 62 ∷ 32 ∷ 92 ∷ 120 ∷ 52 ∷ 49 ∷ 43 ∷ 92 ∷ 120 ∷ 52 ∷ 50 ∷ 32 ∷ 43 ∷ 32 ∷ 92 ∷ 120 ∷ 52 ∷ 51 ∷ 32 ∷ 124 ∷ 48 ∷ []) ∷  -- <U41> \x41+\x42 + \x43 |0
-    (32 ∷ 67 ∷ 72 ∷ 65 ∷ 82 ∷ 77 ∷ 65 ∷ 80 ∷ 32 ∷ 35 ∷ 32 ∷ 120 ∷ []) ∷  --  CHARMAP # x
-    (60 ∷ 85 ∷ 52 ∷ 49 ∷ 62 ∷ 32 ∷ 43 ∷ 32 ∷ 92 ∷ 120 ∷ 52 ∷ 49 ∷ 32 ∷ 124 ∷ 48 ∷ []) ∷  -- <U41> + \x41 |0
-    (60 ∷ 85 ∷ 52 ∷ 49 ∷ 62 ∷ 43 ∷ 43 ∷ 60 ∷ 85 ∷ 52 ∷ 50 ∷ 62 ∷ 32 ∷ 92 ∷ 120 ∷ 52 ∷ 49 ∷ 32 ∷ 124 ∷ 48 ∷ []) ∷  -- <U41>++<U42> \x41 |0
-    (60 ∷ 85 ∷ 52 ∷ 49 ∷ 62 ∷ 32 ∷ 92 ∷ 120 ∷ 52 ∷ 49 ∷ 32 ∷ 43 ∷ 32 ∷ 124 ∷ 48 ∷ []) ∷  -- <U41> \x41 + |0
-    (60 ∷ 85 ∷ 52 ∷ 49 ∷ 62 ∷ 32 ∷ 92 ∷ 120 ∷ 52 ∷ 49 ∷ 32 ∷ 124 ∷ 48 ∷ 32 ∷ 43 ∷ []) ∷  -- <U41> \x41 |0 +
-    (60 ∷ 85 ∷ 52 ∷ 49 ∷ 62 ∷ 32 ∷ 92 ∷ 120 ∷ 52 ∷ 49 ∷ 32 ∷ 124 ∷ 53 ∷ []) ∷  -- <U41> \x41 |5
-    (60 ∷ 85 ∷ 52 ∷ 49 ∷ 62 ∷ 32 ∷ 92 ∷ 120 ∷ 52 ∷ 49 ∷ 32 ∷ 124 ∷ 32 ∷ 48 ∷ []) ∷  -- <U41> \x41 | 0
-    (60 ∷ 85 ∷ 52 ∷ 49 ∷ 62 ∷ 32 ∷ 92 ∷ 120 ∷ 52 ∷ 49 ∷ 32 ∷ 124 ∷ 48 ∷ 48 ∷ []) ∷  -- <U41> \x41 |00
-    (60 ∷ 85 ∷ 62 ∷ 32 ∷ 92 ∷ 120 ∷ 52 ∷ 49 ∷ 32 ∷ 124 ∷ 48 ∷ []) ∷  -- <U> \x41 |0
-    (60 ∷ 85 ∷ 49 ∷ 50 ∷ 51 ∷ 52 ∷ 53 ∷ 54 ∷ 55 ∷ 62 ∷ 32 ∷ 92 ∷ 120 ∷ 52 ∷ 49 ∷ 32 ∷ 124 ∷ 48 ∷ []) ∷  -- <U1234567> \x41 |0
-    (60 ∷ 85 ∷ 32 ∷ 52 ∷ 49 ∷ 62 ∷ 32 ∷ 92 ∷ 120 ∷ 52 ∷ 49 ∷ 32 ∷ 124 ∷ 48 ∷ []) ∷  -- <U 41> \x41 |0
-    (60 ∷ 85 ∷ 52 ∷ 49 ∷ 32 ∷ 92 ∷ 120 ∷ 52 ∷ 49 ∷ 32 ∷ 124 ∷ 48 ∷ []) ∷  -- <U41 \x41 |0
-    (60 ∷ 85 ∷ 52 ∷ 49 ∷ 62 ∷ 32 ∷ 92 ∷ 88 ∷ 52 ∷ 49 ∷ 32 ∷ 124 ∷ 48 ∷ []) ∷  -- <U41> \X41 |0
-    (60 ∷ 85 ∷ 52 ∷ 49 ∷ 62 ∷ 32 ∷ 92 ∷ 120 ∷ 52 ∷ 32 ∷ 124 ∷ 48 ∷ []) ∷  -- <U41> \x4 |0
-    (60 ∷ 117 ∷ 52 ∷ 49 ∷ 62 ∷ 32 ∷ 92 ∷ 120 ∷ 52 ∷ 49 ∷ 32 ∷ 124 ∷ 48 ∷ []) ∷  -- <u41> \x41 |0
-    (60 ∷ 85 ∷ 52 ∷ 49 ∷ 62 ∷ 32 ∷ 124 ∷ 48 ∷ []) ∷  -- <U41> |0
-    (92 ∷ 120 ∷ 52 ∷ 49 ∷ 32 ∷ 60 ∷ 85 ∷ 52 ∷ 49 ∷ 62 ∷ 32 ∷ 124 ∷ 48 ∷ []) ∷  -- \x41 <U41> |0
-    (60 ∷ 85 ∷ 52 ∷ 49 ∷ 62 ∷ 32 ∷ 92 ∷ 120 ∷ 52 ∷ 49 ∷ 32 ∷ 124 ∷ 48 ∷ 32 ∷ 128 ∷ []) ∷  -- <U41> \x41 |0 \80
-    (60 ∷ 85 ∷ 52 ∷ 49 ∷ 62 ∷ 32 ∷ 92 ∷ 120 ∷ 52 ∷ 49 ∷ 32 ∷ 124 ∷ 48 ∷ 13 ∷ []) ∷  -- <U41> \x41 |0\r
-    (60 ∷ 109 ∷ 98 ∷ 95 ∷ 99 ∷ 117 ∷ 114 ∷ 95 ∷ 109 ∷ 97 ∷ 120 ∷ 62 ∷ 32 ∷ 50 ∷ []) ∷  -- <mb_cur_max> 2
-    (99 ∷ 104 ∷ 97 ∷ 114 ∷ 109 ∷ 97 ∷ 112 ∷ []) ∷  -- charmap
-    (67 ∷ 72 ∷ 65 ∷ 82 ∷ 77 ∷ 65 ∷ 80 ∷ 32 ∷ 120 ∷ []) ∷  -- CHARMAP x
-    (69 ∷ 78 ∷ 68 ∷ 67 ∷ 72 ∷ 65 ∷ 82 ∷ 77 ∷ 65 ∷ 80 ∷ []) ∷  -- ENDCHARMAP
-    (69 ∷ 78 ∷ 68 ∷ 32 ∷ 67 ∷ 72 ∷ 65 ∷ 82 ∷ 77 ∷ 65 ∷ 80 ∷ 32 ∷ 120 ∷ []) ∷  -- END CHARMAP x
-    (69 ∷ 78 ∷ 68 ∷ []) ∷  -- END
-    (69 ∷ 78 ∷ 68 ∷ 32 ∷ 67 ∷ 72 ∷ 65 ∷ 82 ∷ 77 ∷ 65 ∷ 80 ∷ []) ∷  -- END CHARMAP
-    (9 ∷ 69 ∷ 78 ∷ 68 ∷ 9 ∷ 32 ∷ 67 ∷ 72 ∷ 65 ∷ 82 ∷ 77 ∷ 65 ∷ 80 ∷ 32 ∷ 35 ∷ 32 ∷ 120 ∷ []) ∷  -- \tEND\t CHARMAP # x
+    (ascii " \t# " ++ (0x80 ∷ [])) ∷
+    ascii "<U41> \\x41 |4" ∷
+    ascii "<U41><U42> \\x41 |0" ∷
+    ascii "<U41> + <U42>+<U43> \\x41 |0" ∷
+    ascii "<U41> \\x41+\\x42 + \\x43 |0" ∷
+    ascii " CHARMAP # x" ∷
+    ascii "<U41> + \\x41 |0" ∷
+    ascii "<U41>++<U42> \\x41 |0" ∷
+    ascii "<U41> \\x41 + |0" ∷
+    ascii "<U41> \\x41 |0 +" ∷
+    ascii "<U41> \\x41 |5" ∷
+    ascii "<U41> \\x41 | 0" ∷
+    ascii "<U41> \\x41 |00" ∷
+    ascii "<U> \\x41 |0" ∷
+    ascii "<U1234567> \\x41 |0" ∷
+    ascii "<U 41> \\x41 |0" ∷
+    ascii "<U41 \\x41 |0" ∷
+    ascii "<U41> \\X41 |0" ∷
+    ascii "<U41> \\x4 |0" ∷
+    ascii "<u41> \\x41 |0" ∷
+    ascii "<U41> |0" ∷
+    ascii "\\x41 <U41> |0" ∷
+    (ascii "<U41> \\x41 |0 " ++ (0x80 ∷ [])) ∷
+    ascii "<U41> \\x41 |0\r" ∷
+    ascii "<mb_cur_max> 2" ∷
+    ascii "charmap" ∷
+    ascii "CHARMAP x" ∷
+    ascii "ENDCHARMAP" ∷
+    ascii "END CHARMAP x" ∷
+    ascii "END" ∷
+    ascii "END CHARMAP" ∷
+    ascii "\tEND\t CHARMAP # x" ∷
     []
 
-abbrev forms : List Form
+abbrev forms : List BodyLine
 forms =
     -- K's mapping lines
     mapping 45 (45 ∷ []) 0 ∷
@@ -111,22 +113,22 @@ forms =
     ending ∷
     []
 
-read : map mappedOf texts ≡ forms
-unfolding digitOf skipOf begins endsAt byteAt hexOf unicodeAt joinAt bytesMore bytesAt isCharmap pointsMore indicatorAt indicatorForm bytesForm pointsForm mappingForm isEnd formAt mappedOf
+read : map bodyLineOf texts ≡ forms
+unfolding digitOf skipOf begins endsAt byteAt pointDigits unicodeAt joinAt bytesMore bytesAt isCharmap pointsMore indicatorAt indicatorForm bytesForm pointsForm mappingForm isEnd bodyLineAt bodyLineOf
 read = refl
 
 -- behind END CHARMAP
 abbrev lastTexts : List (List ℕ)
 lastTexts =
     [] ∷  -- the empty line
-    (32 ∷ 35 ∷ 32 ∷ 120 ∷ []) ∷  --  # x
-    (67 ∷ 72 ∷ 65 ∷ 82 ∷ 77 ∷ 65 ∷ 80 ∷ []) ∷  -- CHARMAP
-    (69 ∷ 78 ∷ 68 ∷ 32 ∷ 67 ∷ 72 ∷ 65 ∷ 82 ∷ 77 ∷ 65 ∷ 80 ∷ []) ∷  -- END CHARMAP
-    (60 ∷ 85 ∷ 52 ∷ 49 ∷ 62 ∷ 32 ∷ 92 ∷ 120 ∷ 52 ∷ 49 ∷ 32 ∷ 124 ∷ 48 ∷ []) ∷  -- <U41> \x41 |0
+    ascii " # x" ∷
+    ascii "CHARMAP" ∷
+    ascii "END CHARMAP" ∷
+    ascii "<U41> \\x41 |0" ∷
     (128 ∷ []) ∷  -- \80
     []
 
-abbrev lastForms : List Form
+abbrev lastForms : List BodyLine
 lastForms =
     blank ∷
     blank ∷
@@ -136,6 +138,6 @@ lastForms =
     noForm ∷
     []
 
-read-last : map lastOf lastTexts ≡ lastForms
-unfolding skipOf begins endsAt isCharmap lastAt lastOf
+read-last : map afterEndOf lastTexts ≡ lastForms
+unfolding skipOf begins endsAt isCharmap afterEndAt afterEndOf
 read-last = refl

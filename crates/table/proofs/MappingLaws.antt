@@ -1,4 +1,4 @@
--- Lines behind CHARMAP: how their tokens follow one another, and the ranges of a mapping.
+-- Lines after CHARMAP: how their tokens follow one another, and the ranges of a mapping.
 use mathlib.Core.Path.{_≡_, refl}
 use mathlib.Core.Bool.{Bool, true, false}
 use mathlib.Core.List.{List}
@@ -8,18 +8,20 @@ use borrow.Author.Tests.{leb-true, eqb-false}
 use lib.Dec.{ltb, leb, eqb}
 use lib.ListN.{length, getD}
 use Rattle.lists.specs.Pick.{pick}
-use Rattle.lists.proofs.Laws.{tests, drop-end}
+use Rattle.lists.proofs.Laws.{tests, drop-past}
 use Rattle.lists.proofs.Cases.{pick-case}
 use Rattle.table.specs.Codes.{packed, AllByte}
-use Rattle.table.specs.Text.{Series, series, broken, byteOf, skipAt, begins, endsAt, byteAt, unicodeAt, plusAt, joinAt, withByte, bytesMore, bytesFrom, bytesAt, runOf, isCharmap}
-use Rattle.table.specs.Mapping.{Form, noForm, reserved, blank, ending, mapping, pointsMore, indicatorAt, indicatorForm, bytesForm, pointsForm, mappingForm, isEnd, formAt, mappedOf, codedForm}
+use Rattle.table.specs.Text.{ByteSeries, series, broken, byteOf, skipAt, endsAt, byteAt, unicodeAt, plusAt, joinAt, withByte, bytesMore, bytesFrom, bytesAt, isCharmap}
+use Rattle.lists.specs.Strings.{begins}
+use Rattle.table.specs.Mapping.{BodyLine, noForm, reserved, blank, ending, mapping, pointsMore, indicatorAt, indicatorForm, bytesForm, pointsForm, mappingForm, isEnd, bodyLineAt, bodyLineOf}
 use Rattle.table.specs.declared.text.Num.{Num}
 use Rattle.table.specs.declared.text.Num.the-variants.{Val, Bad}
-use Rattle.table.specs.declared.text.Run.{Run}
-use Rattle.table.specs.declared.text.Run.the-variants.{Bytes, Wrong}
+use Rattle.table.specs.declared.text.ByteRun.{ByteRun}
+use Rattle.table.specs.declared.text.ByteRun.the-variants.{Bytes, Wrong}
 use Rattle.table.specs.declared.mapping.Mapped.{Mapped}
 use Rattle.table.specs.declared.mapping.Mapped.the-variants as coded
 use Rattle.table.proofs.TextLaws.{scan, ends-inside, Forth, unicode-forth, byte-forth, SeriesByte, more-bytes}
+use Rattle.table.specs.loops.Coded.{byteRunOf, codedLine}
 
 -- a run of code points: one more, or none, where no `+` may stand
 pub points-more : (f : ℕ) (s : List ℕ) (several q v e : ℕ) → 0 < f → pointsMore f s several q (Val v e) ≡ pointsMore (f - 1) s 1 e (unicodeAt s (joinAt s e))
@@ -40,15 +42,15 @@ points-done (suc f) s several q h = rw h
 -- nothing stands at a line's end
 pub charmap-none : (s : List ℕ) (p : ℕ) → length s ≤ p → isCharmap s p ≡ false
 unfolding isCharmap begins
-charmap-none s p h = rw (drop-end s p h)
+charmap-none s p h = rw (drop-past s p h)
 
 -- the first byte decides whether a line is a mapping
-pub form-mapping : (s : List ℕ) (p : ℕ) → endsAt s p ≡ false → getD s p 0 ≡ 60 → formAt s p ≡ mappingForm s (unicodeAt s p)
-unfolding formAt
+pub form-mapping : (s : List ℕ) (p : ℕ) → endsAt s p ≡ false → getD s p 0 ≡ 60 → bodyLineAt s p ≡ mappingForm s (unicodeAt s p)
+unfolding bodyLineAt
 form-mapping s p e b = let h = ends-inside s p e in search (scan, e)
 
-pub form-word : (s : List ℕ) (p : ℕ) → endsAt s p ≡ false → (getD s p 0 ≡ 60 → ⊥) → formAt s p ≡ pick (isCharmap s p) reserved (pick (isEnd s p) ending noForm)
-unfolding formAt
+pub form-word : (s : List ℕ) (p : ℕ) → endsAt s p ≡ false → (getD s p 0 ≡ 60 → ⊥) → bodyLineAt s p ≡ pick (isCharmap s p) reserved (pick (isEnd s p) ending noForm)
+unfolding bodyLineAt
 form-word s p e b = let h = ends-inside s p e in search (scan, e)
 
 -- the end of a mapping, as the code holds it
@@ -56,21 +58,21 @@ unfoldable pub codedEnd : ℕ → ℕ → ℕ → Bool → Num → Mapped
 codedEnd u b n later Bad = coded.NoForm
 codedEnd u b n later (Val d q) = pick later coded.Reserved (pick (eqb d 4) coded.Reserved (coded.Line u b n d))
 
-unfoldable pub codedRun : List ℕ → ℕ → ℕ → Run → Mapped
+unfoldable pub codedRun : List ℕ → ℕ → ℕ → ByteRun → Mapped
 codedRun s u several Wrong = coded.NoForm
 codedRun s u several (Bytes b n joined q) = codedEnd u b n (pick (eqb several 1) true joined) (indicatorAt s (skipAt s q))
 
-coded-pick : (t : Bool) (a b : Form) → codedForm (pick t a b) ≡ pick t (codedForm a) (codedForm b)
+coded-pick : (t : Bool) (a b : BodyLine) → codedLine (pick t a b) ≡ pick t (codedLine a) (codedLine b)
 coded-pick true a b = refl
 coded-pick false a b = refl
 
-coded-end : (u : ℕ) (l : List ℕ) (later : Bool) (n : Num) → codedForm (indicatorForm u l later n) ≡ codedEnd u (packed l) (length l) later n
+coded-end : (u : ℕ) (l : List ℕ) (later : Bool) (n : Num) → codedLine (indicatorForm u l later n) ≡ codedEnd u (packed l) (length l) later n
 unfolding indicatorForm codedEnd
 coded-end u l later Bad = refl
 coded-end u l true (Val d q) = refl
 coded-end u l false (Val d q) = coded-pick (eqb d 4) reserved (mapping u l d)
 
-pub coded-run : (s : List ℕ) (u several : ℕ) (r : Series) → codedForm (bytesForm s u several r) ≡ codedRun s u several (runOf r)
+pub coded-run : (s : List ℕ) (u several : ℕ) (r : ByteSeries) → codedLine (bytesForm s u several r) ≡ codedRun s u several (byteRunOf r)
 unfolding bytesForm codedRun
 coded-run s u several broken = refl
 coded-run s u several (series l plus q) = coded-end u l (pick (eqb several 1) true plus) (indicatorAt s (skipAt s q))
@@ -106,7 +108,7 @@ indicator-forth s at =
     P : Num → Type 0
     P n = Forth 5 at n
 
-abbrev pub FormFits : Form → Type 0
+abbrev pub FormFits : BodyLine → Type 0
 FormFits noForm = Unit {0}
 FormFits reserved = Unit {0}
 FormFits blank = Unit {0}
@@ -121,11 +123,11 @@ indicator-fits u l later at (Val d q) a i h k =
     (λ _. pick-case FormFits (eqb d 4) _ _ (λ _. tt) (λ e. let n = eqb-false d 4 e in (a, i, h, omega (arith, k .0))))
 
 -- one or more bytes
-abbrev SeriesFits : Series → Type 0
+abbrev SeriesFits : ByteSeries → Type 0
 SeriesFits broken = Unit {0}
 SeriesFits (series l m e) = AllByte l × (1 ≤ length l)
 
-with-fits : (v : ℕ) (p : Bool) (r : Series) → v < 256 → SeriesByte r → SeriesFits (withByte v p r)
+with-fits : (v : ℕ) (p : Bool) (r : ByteSeries) → v < 256 → SeriesByte r → SeriesFits (withByte v p r)
 unfolding AllByte
 with-fits v p broken h a = tt
 with-fits v p (series l m e) h a = ((h, a), omega arith)
@@ -138,7 +140,7 @@ bytes-fits : (s : List ℕ) (at : ℕ) → SeriesFits (bytesAt s at)
 unfolding bytesAt
 bytes-fits s at = from-fits s _ (byteAt s (skipAt s at)) (byte-forth s (skipAt s at))
 
-bytes-form : (s : List ℕ) (u several : ℕ) (r : Series) → SeriesFits r → u < 16777216 → FormFits (bytesForm s u several r)
+bytes-form : (s : List ℕ) (u several : ℕ) (r : ByteSeries) → SeriesFits r → u < 16777216 → FormFits (bytesForm s u several r)
 unfolding bytesForm
 bytes-form s u several broken a h = tt
 bytes-form s u several (series l plus q) a h = indicator-fits u l (pick (eqb several 1) true plus) _ (indicatorAt s (skipAt s q)) (a .0) (a .1) h (indicator-forth s (skipAt s q))
@@ -153,8 +155,8 @@ unfolding mappingForm
 mapping-form s at Bad h = tt
 mapping-form s at (Val u q) h = points-form s u (pointsMore (length s) s 0 q (unicodeAt s (joinAt s q))) (h .0)
 
-mapped-fits : (s : List ℕ) → FormFits (mappedOf s)
-unfolding mappedOf formAt
+mapped-fits : (s : List ℕ) → FormFits (bodyLineOf s)
+unfolding bodyLineOf bodyLineAt
 mapped-fits s =
     pick-case FormFits (endsAt s (skipAt s 0)) _ _ (λ _. tt)
     (λ _. pick-case FormFits (eqb (byteOf s (skipAt s 0)) 60) _ _ (λ _. mapping-form s _ (unicodeAt s (skipAt s 0)) (unicode-forth s (skipAt s 0)))
@@ -162,5 +164,5 @@ mapped-fits s =
     (λ _. pick-case FormFits (isEnd s (skipAt s 0)) _ _ (λ _. tt) (λ _. tt))))
 
 -- a mapping has one or more bytes, a code point of at most six digits, and an indicator of 0 to 3
-pub form-bytes : (s : List ℕ) (u : ℕ) (l : List ℕ) (d : ℕ) → mappedOf s ≡ mapping u l d → AllByte l × (1 ≤ length l) × (u < 16777216) × (d ≤ 3)
+pub form-bytes : (s : List ℕ) (u : ℕ) (l : List ℕ) (d : ℕ) → bodyLineOf s ≡ mapping u l d → AllByte l × (1 ≤ length l) × (u < 16777216) × (d ≤ 3)
 form-bytes s u l d e = rw e at (mapped-fits s)

@@ -9,17 +9,18 @@ use lib.ListN.{length, drop}
 use lib.Dec.{ltb, leb, eqb}
 use borrow.Author.Tests.{le-ltb, le-leb, ne-eqb, eqb-true, eqb-false, ltb-false, leb-true}
 use Rattle.lists.specs.Pick.{pick}
-use Rattle.lists.proofs.Laws.{not-yes}
+use Rattle.lists.proofs.Laws.{¬true⇒false}
 use Rattle.lists.proofs.Cases.{pick-case}
 use Rattle.table.specs.Meaning.{Line}
-use Rattle.table.specs.Grammar.{Point, Closes, Indicator, AnyMapping, MappingLine, LaterMapping}
-use Rattle.table.specs.Text.{byteOf, skipAt, endsAt, unicodeAt, joinAt, Series, series, broken, withByte, bytesAt}
-use Rattle.table.specs.Mapping.{Form, noForm, reserved, blank, ending, mapping, indicatorAt, indicatorForm, bytesForm, pointsForm, mappingForm, mappedOf}
+use Rattle.table.specs.Grammar.{Point, Closes, Indicator, AnyMapping, MappingLine, UnbuiltMapping}
+use Rattle.table.specs.Text.{byteOf, skipAt, endsAt, unicodeAt, joinAt, ByteSeries, series, broken, withByte, bytesAt}
+use Rattle.table.specs.Mapping.{BodyLine, noForm, reserved, blank, ending, mapping, indicatorAt, indicatorForm, bytesForm, pointsForm, mappingForm, bodyLineOf}
 use Rattle.table.specs.declared.text.Num.{Num}
 use Rattle.table.specs.declared.text.Num.the-variants.{Val, Bad}
 use Rattle.table.proofs.TextLaws.{getD-in, ends-inside}
 use Rattle.table.proofs.MappingLaws.{form-mapping}
-use Rattle.table.proofs.Tokens.{strip, first, closes, byte-at, byte-here, past, ends-here, skip-here, at-byte, token-front, token-here, token-made, closes-strip, ends-closed, ends-written, closed-first}
+use Rattle.table.proofs.Tokens.{strip, first, closes, drop⇒byteOf-+, drop⇒byteOf, drop⇒endsAt, drop⇒skipAt, at-byte, token-front, Token⇒skipAt, drop⇒Token, closes-strip, Closes⇒endsAt, endsAt⇒Closes, closed-first}
+use Rattle.lists.proofs.Parts.{drop-+}
 use Rattle.table.proofs.SeriesRead.{byte-reader, point-reader, SeriesOf, moreAt, seriesFrom, seriesAt, series-first, series-read, series-written, bytes-read, RunOf, bytes-written, several, counted, points-counted}
 
 -- ## The indicator
@@ -33,8 +34,8 @@ unfolding indicatorAt
 bar-reads s at d r h small k =
     let t : List ℕ = 124 ∷ (48 + d) ∷ r in
     let v : 48 + d - 48 ≡ d = omega arith in
-    let e = ends-closed s (at + 2) r (past s at 2 t h) k in
-    rw (ends-here s at t h, byte-here s at t h, byte-at s at 1 t h, le-ltb (48 + d) 48 (omega arith), le-leb (48 + d) 52 (omega arith), e, v)
+    let e = Closes⇒endsAt s (at + 2) r (drop-+ s at 2 t h) k in
+    rw (drop⇒endsAt s at t h, drop⇒byteOf s at t h, drop⇒byteOf-+ s at 1 t h, le-ltb (48 + d) 48 (omega arith), le-leb (48 + d) 52 (omega arith), e, v)
 
 none-reads : (s : List ℕ) (at : ℕ) → endsAt s at ≡ true → indicatorAt s at ≡ Val 0 at
 unfolding indicatorAt
@@ -43,9 +44,9 @@ none-reads s at e = rw e
 indicator-reads : (s : List ℕ) (q d : ℕ) (t r : List ℕ) → Indicator d t r → Closes r → drop q s ≡ t
     → (e : ℕ) × (indicatorAt s (skipAt s q) ≡ Val d e)
 indicator-reads s q d t r (inl (small, b)) k h =
-    (skipAt s q + 2, bar-reads s (skipAt s q) d r (token-here (124 ∷ (48 + d) ∷ []) t r (refl, refl) b s q h) small k)
+    (skipAt s q + 2, bar-reads s (skipAt s q) d r (Token⇒skipAt (124 ∷ (48 + d) ∷ []) t r (refl, refl) b s q h) small k)
 indicator-reads s q d t r (inr (z, e)) k h =
-    (skipAt s q, none-reads s (skipAt s q) (ends-closed s q r (h ∙ e) k) ∙ ap (λ (x : ℕ). Val x (skipAt s q)) (sym z))
+    (skipAt s q, none-reads s (skipAt s q) (Closes⇒endsAt s q r (h ∙ e) k) ∙ ap (λ (x : ℕ). Val x (skipAt s q)) (sym z))
 
 -- behind the bytes stands neither a byte nor a `+`
 behind-first : (x d : ℕ) (t r : List ℕ) → Indicator d t r → Closes r → x < 256 → (x ≡ 35 → ⊥) → (x ≡ 124 → ⊥) → first (strip t) ≡ x → ⊥
@@ -61,12 +62,12 @@ TailOf s q (Val d e) = (r : List ℕ) × Indicator d (drop q s) r × Closes r
 indicator-written : (s : List ℕ) (q : ℕ) → TailOf s q (indicatorAt s (skipAt s q))
 unfolding indicatorAt
 indicator-written s q =
-    pick-case P (endsAt s at) _ _ (λ e. (drop q s, inr (refl, refl), ends-written s q e))
+    pick-case P (endsAt s at) _ _ (λ e. (drop q s, inr (refl, refl), endsAt⇒Closes s q e))
     (λ _. pick-case P (eqb (byteOf s at) 124) _ _
     (λ i. pick-case P (ltb b 48) _ _ (λ _. tt)
     (λ j. pick-case P (leb b 52) _ _
     (λ k. pick-case P (endsAt s (skipAt s (at + 2))) _ _
-    (λ e. made (eqb-true (byteOf s at) 124 i) (ltb-false b 48 j) (leb-true b 52 k) (ends-written s (at + 2) e))
+    (λ e. made (eqb-true (byteOf s at) 124 i) (ltb-false b 48 j) (leb-true b 52 k) (endsAt⇒Closes s (at + 2) e))
     (λ _. tt)) (λ _. tt))) (λ _. tt))
   where
     at : ℕ
@@ -83,16 +84,16 @@ indicator-written s q =
         let d : ℕ = b - 48 in
         let e0 = at-byte s at (at + 1) 124 refl i (λ x. omega arith) in
         let e1 = at-byte s (at + 1) (at + 2) (48 + d) (omega arith) (omega arith) (λ x. omega arith) in
-        (drop (at + 2) s, inl (omega arith, token-made s q (at + 2) (124 ∷ (48 + d) ∷ []) (e0 ∙ ap (λ (r : List ℕ). 124 ∷ r) e1)), c)
+        (drop (at + 2) s, inl (omega arith, drop⇒Token s q (at + 2) (124 ∷ (48 + d) ∷ []) (e0 ∙ ap (λ (r : List ℕ). 124 ∷ r) e1)), c)
 
 -- ## A line from its code points on
 
-abbrev seriesForm : List ℕ → Series → Form
+abbrev seriesForm : List ℕ → ByteSeries → BodyLine
 seriesForm s broken = noForm
 seriesForm s (series [] joined e) = noForm
 seriesForm s (series (u ∷ us) joined e) = bytesForm s u (several 0 us) (bytesAt s e)
 
-counted-form : (s : List ℕ) (u : ℕ) (r : Series) → pointsForm s u (counted 0 r) ≡ seriesForm s (withByte u false r)
+counted-form : (s : List ℕ) (u : ℕ) (r : ByteSeries) → pointsForm s u (counted 0 r) ≡ seriesForm s (withByte u false r)
 unfolding pointsForm
 counted-form s u broken = refl
 counted-form s u (series us joined e) = refl
@@ -105,7 +106,7 @@ points-form s (Val u q) =
     ap (pointsForm s u) (points-counted (length s) s 0 q n) ∙ counted-form s u (moreAt unicodeAt (length s) s q n)
 
 -- what is read of code points, bytes, whether a `+` stands among the bytes, and an indicator
-abbrev pub formOf : List ℕ → List ℕ → Bool → ℕ → Form
+abbrev pub formOf : List ℕ → List ℕ → Bool → ℕ → BodyLine
 formOf [] c plus d = noForm
 formOf (u ∷ us) c plus d = pick (pick (eqb (several 0 us) 1) true plus) reserved (pick (eqb d 4) reserved (mapping u c d))
 
@@ -117,17 +118,17 @@ unfolding bytesForm indicatorForm
 parts-form s [] c joined plus d q e z b i = refl
 parts-form s (u ∷ us) c joined plus d q e z b i = rw (b, i)
 
-first-form : (s : List ℕ) → first (strip s) ≡ 60 → mappedOf s ≡ seriesForm s (seriesAt unicodeAt s 0)
-unfolding mappedOf
+first-form : (s : List ℕ) → first (strip s) ≡ 60 → bodyLineOf s ≡ seriesForm s (seriesAt unicodeAt s 0)
+unfolding bodyLineOf
 first-form s h =
     let p : ℕ = skipAt s 0 in
-    let k = skip-here s 0 s refl in
-    let c = not-yes (closes (strip s)) (λ c. closed-first 60 (strip s) c (omega arith) (λ x. omega arith) h) in
-    let n = ends-here s p (strip s) k ∙ c in
-    form-mapping s p n (sym (getD-in s p (ends-inside s p n)) ∙ byte-here s p (strip s) k ∙ h) ∙ points-form s (unicodeAt s p)
+    let k = drop⇒skipAt s 0 s refl in
+    let c = ¬true⇒false (closes (strip s)) (λ c. closed-first 60 (strip s) c (omega arith) (λ x. omega arith) h) in
+    let n = drop⇒endsAt s p (strip s) k ∙ c in
+    form-mapping s p n (sym (getD-in s p (ends-inside s p n)) ∙ drop⇒byteOf s p (strip s) k ∙ h) ∙ points-form s (unicodeAt s p)
 
 pub any-mapping-reads : (us c : List ℕ) (joined plus : Bool) (d : ℕ) (s : List ℕ) → AnyMapping us c joined plus d s
-    → mappedOf s ≡ formOf us c plus d
+    → bodyLineOf s ≡ formOf us c plus d
 any-mapping-reads us c joined plus d s l =
     let t : List ℕ = l .behind-points in
     let r : List ℕ = l .behind-bytes in
@@ -140,26 +141,26 @@ any-mapping-reads us c joined plus d s l =
     first-form s (series-first point-reader us joined s t (l .points)) ∙ ap (seriesForm s) (p .1)
     ∙ parts-form s us c joined plus d (p .0) (b .0) (i .0) (b .1) (i .1)
 
-pub mapping-line-reads : (l : Line) (s : List ℕ) → MappingLine l s → mappedOf s ≡ mapping (l .point) (l .code) (l .indicator)
+pub mapping-line-reads : (l : Line) (s : List ℕ) → MappingLine l s → bodyLineOf s ≡ mapping (l .point) (l .code) (l .indicator)
 mapping-line-reads l s (small, m) =
     any-mapping-reads (l .point ∷ []) (l .code) false false (l .indicator) s m ∙ rw (ne-eqb (l .indicator) 4 (λ e. omega arith))
 
-later-form : (us c : List ℕ) (joined plus : Bool) (d : ℕ) (s : List ℕ) → AnyMapping us c joined plus d s
+unbuilt-form : (us c : List ℕ) (joined plus : Bool) (d : ℕ) (s : List ℕ) → AnyMapping us c joined plus d s
     → (2 ≤ length us) ⊎ ((plus ≡ true) ⊎ (d ≡ 4)) → formOf us c plus d ≡ reserved
-later-form [] c joined plus d s m h = absurd (m .points)
-later-form (u ∷ v ∷ us) c joined plus d s m h = refl
-later-form (u ∷ []) c joined plus d s m (inl h) = absurd (omega arith)
-later-form (u ∷ []) c joined plus d s m (inr (inl h)) = rw h
-later-form (u ∷ []) c joined plus d s m (inr (inr h)) = pick-case (λ (f : Form). f ≡ reserved) plus _ _ (λ _. refl) (λ _. rw h)
+unbuilt-form [] c joined plus d s m h = absurd (m .points)
+unbuilt-form (u ∷ v ∷ us) c joined plus d s m h = refl
+unbuilt-form (u ∷ []) c joined plus d s m (inl h) = absurd (omega arith)
+unbuilt-form (u ∷ []) c joined plus d s m (inr (inl h)) = rw h
+unbuilt-form (u ∷ []) c joined plus d s m (inr (inr h)) = pick-case (λ (f : BodyLine). f ≡ reserved) plus _ _ (λ _. refl) (λ _. rw h)
 
-pub later-mapping-reads : (s : List ℕ) → LaterMapping s → mappedOf s ≡ reserved
-later-mapping-reads s (us, c, joined, plus, d, m, h) = any-mapping-reads us c joined plus d s m ∙ later-form us c joined plus d s m h
+pub unbuilt-mapping-reads : (s : List ℕ) → UnbuiltMapping s → bodyLineOf s ≡ reserved
+unbuilt-mapping-reads s (us, c, joined, plus, d, m, h) = any-mapping-reads us c joined plus d s m ∙ unbuilt-form us c joined plus d s m h
 
 -- ## What is read so the grammar has
 
-abbrev pub MappingMeans : List ℕ → Form → Type 0
+abbrev pub MappingMeans : List ℕ → BodyLine → Type 0
 MappingMeans s noForm = Unit {0}
-MappingMeans s reserved = LaterMapping s
+MappingMeans s reserved = UnbuiltMapping s
 MappingMeans s blank = ⊥
 MappingMeans s ending = ⊥
 MappingMeans s (mapping u c d) = MappingLine (record { point = u; code = c; indicator = d }) s
@@ -184,12 +185,12 @@ module _ (s : List ℕ) (u : ℕ) (us : List ℕ) (joined : Bool) (q : ℕ) (p :
       form-means (u ∷ us) c joined plus d s
       (record { behind-points = drop q s; behind-bytes = drop e s; behind-all = r; points = p; bytes = b; indicator = i; closed = k })
 
-  bytes-means : (r : Series) → RunOf s q r → MappingMeans s (bytesForm s u (several 0 us) r)
+  bytes-means : (r : ByteSeries) → RunOf s q r → MappingMeans s (bytesForm s u (several 0 us) r)
   unfolding bytesForm
   bytes-means broken b = tt
   bytes-means (series c plus e) b = end-means c plus e (indicatorAt s (skipAt s e)) b (indicator-written s e)
 
-points-means : (s : List ℕ) (r : Series) → SeriesOf Point s 0 r → MappingMeans s (seriesForm s r)
+points-means : (s : List ℕ) (r : ByteSeries) → SeriesOf Point s 0 r → MappingMeans s (seriesForm s r)
 points-means s broken p = tt
 points-means s (series [] joined q) p = tt
 points-means s (series (u ∷ us) joined q) p = bytes-means s u us joined q p (bytesAt s q) (bytes-written s q)

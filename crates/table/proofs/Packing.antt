@@ -10,7 +10,7 @@ use borrow.Author.Tests.{eqb-true, eq-eqb}
 use Rattle.lists.specs.Pick.{pick}
 use Rattle.lists.specs.Order.{All}
 use Rattle.table.specs.Codes.{packed, unpacked, AllByte}
-use Rattle.table.specs.Entry.{padded}
+use Rattle.table.specs.Stored.{padded}
 
 -- no bytes, and a byte before others
 pub packed-none : packed [] ≡ 0
@@ -84,18 +84,18 @@ packed-padded (b ∷ c ∷ d ∷ []) a h k = eq-eqb (packed (b ∷ c ∷ d ∷ [
 packed-padded (b ∷ c ∷ d ∷ e ∷ []) a h k = refl
 packed-padded (b ∷ c ∷ d ∷ e ∷ x ∷ s) a h k = absurd (omega arith)
 
-pub unpack : (s : List ℕ) → AllByte s → length s ≤ 4 → unpacked (length s) (packed s) ≡ s
+pub unpacked-packed : (s : List ℕ) → AllByte s → length s ≤ 4 → unpacked (length s) (packed s) ≡ s
 unfolding packed unpacked AllByte
-unpack [] a h = refl
-unpack (b ∷ s) a h =
+unpacked-packed [] a h = refl
+unpacked-packed (b ∷ s) a h =
     let lt = packed-fits s (a .1) in
     let ev = three-padded s (omega arith) in
     let hi : (b * 16777216 + packed s / 256) / 16777216 ≡ b = omega (arith, a .0) in
     let lo : (b * 16777216 + packed s / 256) % 16777216 * 256 ≡ packed s = omega (arith, a .0) in
-    rw (hi, lo) (ap (λ (t : List ℕ). b ∷ t) (unpack s (a .1) (omega arith)))
+    rw (hi, lo) (ap (λ (t : List ℕ). b ∷ t) (unpacked-packed s (a .1) (omega arith)))
 
 pub pack-one-way : (s t : List ℕ) → AllByte s → AllByte t → length s ≡ length t → length s ≤ 4 → packed s ≡ packed t → s ≡ t
-pack-one-way s t a b n h e = sym (unpack s a h) ∙ ap (λ (k : ℕ). unpacked k (packed s)) n ∙ ap (unpacked (length t)) e ∙ unpack t b (omega arith)
+pack-one-way s t a b n h e = sym (unpacked-packed s a h) ∙ ap (λ (k : ℕ). unpacked k (packed s)) n ∙ ap (unpacked (length t)) e ∙ unpacked-packed t b (omega arith)
 
 -- one byte more, where the rest goes back
 pack-more : (n v : ℕ) → packed (unpacked n (v % 16777216 * 256)) ≡ v % 16777216 * 256 → packed (unpacked (suc n) v) ≡ v

@@ -12,30 +12,32 @@ use borrow.Author.Tests.{le-leb, lt-leb, lt-ltb, le-ltb, eq-eqb, ne-eqb}
 use Rattle.lists.specs.Pick.{pick}
 use Rattle.lists.specs.Order.{All, In}
 use Rattle.lists.specs.Ascii.{ascii}
-use Rattle.lists.proofs.Order.{all-in}
+use Rattle.lists.proofs.Order.{All-In⁻}
 use Rattle.lists.proofs.Cases.{pick-case, pick-yes, pick-no}
-use Rattle.table.specs.Grammar.{Blanks, Token, Number, Letter, Entry, MoreEntries, Entries, Opened, RowValue}
-use Rattle.table.specs.Text.{digitOf, byteOf, skipOf, skipAt, begins, numberAt}
-use Rattle.table.specs.Row.{toAt, nextAt, letterAt, endAt, itemSep, itemEnd, itemNext, itemTo, itemFrom, itemAt, columnsGo, wellGo, columnsAt, wellAt, commaAt, openAt, columnsFrom, columnsOf, laterColumn, overColumn}
-use Rattle.table.specs.Rules.{anyOf}
+use Rattle.table.specs.Grammar.{Blanks, Token, Number, Letter, EntryText, MoreEntries, Entries, Opened, RowValue}
+use Rattle.table.specs.Text.{digitOf, byteOf, skipOf, skipAt, numberAt}
+use Rattle.lists.specs.Strings.{begins}
+use Rattle.table.specs.Row.{toAt, nextAt, letterAt, endAt, entrySep, entryEnd, entryNext, entryTo, entryFrom, entryAt, entriesGo, wellGo, entriesAt, wellAt, commaAt, openAt, entriesFrom, entriesOf, unbuiltEntry, overEntry}
+use Rattle.lists.specs.Tests.{anyOf}
 use Rattle.table.specs.Header.{rowFrom, rowIn, valueOf}
-use Rattle.table.specs.declared.header.Key.the-variants.{State}
-use Rattle.table.specs.declared.header.Value.the-variants.{Row}
 use Rattle.table.specs.declared.text.Num.{Num}
 use Rattle.table.specs.declared.text.Num.the-variants.{Val}
-use Rattle.table.specs.declared.header.Column.{Column}
-use Rattle.table.specs.declared.header.Item.{Item}
-use Rattle.table.specs.declared.header.Item.the-variants.{More, Last}
 use Rattle.table.proofs.TextLaws.{getD-in}
 use Rattle.table.proofs.RowText.{sep-last, sep-more}
-use Rattle.table.proofs.Tokens.{strip, first, byte-at, byte-here, left-here, skip-here, strip-all, gap-of, blank-left, Solid, token-front, token-here, token-past, token-less, hexFrom, AllDigits, hex-all, hex-value}
+use Rattle.table.proofs.Tokens.{strip, first, drop⇒byteOf-+, drop⇒byteOf, drop⇒skipAt, strip-all, gap-of, Blanks⇒skipAt, Solid, token-front, Token⇒skipAt, Token⇒past, token-less, hexFrom, AllDigits, Hex⇒AllDigits, Hex⇒hexFrom}
+use Rattle.lists.proofs.Parts.{drop⇒length}
+use Rattle.table.specs.declared.value.Key.the-variants.{State}
+use Rattle.table.specs.declared.value.Value.the-variants.{Row}
+use Rattle.table.specs.declared.row.Entry.{Entry}
+use Rattle.table.specs.declared.row.ReadEntry.{ReadEntry}
+use Rattle.table.specs.declared.row.ReadEntry.the-variants.{More, Last}
 
 -- the first byte that is no blank
 abbrev front : List ℕ → ℕ
 front t = first (strip t)
 
 front-here : (s : List ℕ) (q : ℕ) (t : List ℕ) → drop q s ≡ t → byteOf s (skipAt s q) ≡ front t
-front-here s q t h = byte-here s (skipAt s q) (strip t) (skip-here s q t h)
+front-here s q t h = drop⇒byteOf s (skipAt s q) (strip t) (drop⇒skipAt s q t h)
 
 -- a token stands inside the line
 solid-some : (w : List ℕ) → Solid w → 1 ≤ length w
@@ -44,11 +46,11 @@ solid-some (x ∷ w) n = omega arith
 
 token-inside : (s : List ℕ) (q : ℕ) (w t r : List ℕ) → Solid w → Token w t r → drop q s ≡ t → skipAt s q < length s
 token-inside s q w t r n k h =
-    omega (arith, left-here s (skipAt s q) (w ++ r) (token-here w t r n k s q h), length-append w r, solid-some w n)
+    omega (arith, drop⇒length s (skipAt s q) (w ++ r) (Token⇒skipAt w t r n k s q h), length-append w r, solid-some w n)
 
 -- a token of one byte
 sign-here : (s : List ℕ) (q x : ℕ) (t r : List ℕ) → Solid (x ∷ []) → Token (x ∷ []) t r → drop q s ≡ t → byteOf s (skipAt s q) ≡ x
-sign-here s q x t r n k h = byte-here s (skipAt s q) (x ∷ r) (token-here (x ∷ []) t r n k s q h)
+sign-here s q x t r n k h = drop⇒byteOf s (skipAt s q) (x ∷ r) (Token⇒skipAt (x ∷ []) t r n k s q h)
 
 -- a reader's answer, and what is left behind it
 abbrev Reads : List ℕ → Num → ℕ → List ℕ → Type 0
@@ -73,7 +75,7 @@ digits-solid [] a one = absurd (omega arith)
 digits-solid (x ∷ ds) a one = (ne-eqb x 32 (digit-apart x 32 (a .0) refl), ne-eqb x 9 (digit-apart x 9 (a .0) refl))
 
 number-solid : (v : ℕ) (t r : List ℕ) (n : Number v t r) → Solid (n .0)
-number-solid v t r (ds, d, k) = digits-solid ds (hex-all 0 ds v (d .2)) (d .0)
+number-solid v t r (ds, d, k) = digits-solid ds (Hex⇒AllDigits 0 ds v (d .2)) (d .0)
 
 -- no digit behind blanks, and so none before them
 no-digit : (w r : List ℕ) → Blanks w → digitOf (first r) ≡ 16 → digitOf (first (w ++ r)) ≡ 16
@@ -87,7 +89,7 @@ unfolding digitOf
 sign-digit r i =
     let g = gap-of r in
     ap (λ (l : List ℕ). digitOf (first l)) (g .2)
-    ∙ no-digit (g .0) (strip r) (g .1) (all-in (λ (y : ℕ). digitOf y ≡ 16) (front r) signs (refl, (refl, (refl, (refl, (refl, tt))))) i)
+    ∙ no-digit (g .0) (strip r) (g .1) (All-In⁻ (λ (y : ℕ). digitOf y ≡ 16) (front r) signs (refl, (refl, (refl, (refl, (refl, tt))))) i)
 
 number-at : (s : List ℕ) (p v : ℕ) (ds r : List ℕ) → drop p s ≡ ds ++ r → AllDigits ds → 1 ≤ length ds → length ds ≤ 2 → hexFrom 0 ds ≡ v
     → digitOf (first r) ≡ 16 → numberAt s p ≡ Val v (p + length ds)
@@ -95,20 +97,20 @@ unfolding numberAt hexFrom
 number-at s p v [] r h a one two e n = absurd (omega arith)
 number-at s p v (x ∷ []) r h a one two e n =
     let k : digitOf x ≡ v = omega arith in
-    rw (byte-here s p (x ∷ r) h, byte-at s p 1 (x ∷ r) h, lt-ltb (digitOf x) 16 (a .0), le-ltb (digitOf (first r)) 16 (omega arith), k)
+    rw (drop⇒byteOf s p (x ∷ r) h, drop⇒byteOf-+ s p 1 (x ∷ r) h, lt-ltb (digitOf x) 16 (a .0), le-ltb (digitOf (first r)) 16 (omega arith), k)
 number-at s p v (x ∷ y ∷ []) r h a one two e n =
     let k : digitOf x * 16 + digitOf y ≡ v = omega arith in
-    rw (byte-here s p (x ∷ y ∷ r) h, byte-at s p 1 (x ∷ y ∷ r) h, lt-ltb (digitOf x) 16 (a .0), lt-ltb (digitOf y) 16 (a .1 .0), k)
+    rw (drop⇒byteOf s p (x ∷ y ∷ r) h, drop⇒byteOf-+ s p 1 (x ∷ y ∷ r) h, lt-ltb (digitOf x) 16 (a .0), lt-ltb (digitOf y) 16 (a .1 .0), k)
 number-at s p v (x ∷ y ∷ z ∷ ds) r h a one two e n = absurd (omega arith)
 
 number-reads : (s : List ℕ) (v : ℕ) (r : List ℕ) → In (front r) signs → (t : List ℕ) (q : ℕ) → Number v t r → drop q s ≡ t
     → Reads s (numberAt s (skipAt s q)) v r
 number-reads s v r i t q (ds, d, k) h =
     let n = number-solid v t r (ds, d, k) in
-    let a = hex-all 0 ds v (d .2) in (
+    let a = Hex⇒AllDigits 0 ds v (d .2) in (
       skipAt s q + length ds,
-      number-at s (skipAt s q) v ds r (token-here ds t r n k s q h) a (d .0) (d .1) (hex-value 0 ds v (d .2)) (sign-digit r i),
-      token-past ds t r n k s q h,
+      number-at s (skipAt s q) v ds r (Token⇒skipAt ds t r n k s q h) a (d .0) (d .1) (Hex⇒hexFrom 0 ds v (d .2)) (sign-digit r i),
+      Token⇒past ds t r n k s q h,
     )
 
 number-less : (v : ℕ) (r t : List ℕ) → Number v t r → length r ≤ length t
@@ -116,17 +118,17 @@ number-less v r t (ds, d, k) = omega (arith, token-less ds t r k)
 
 -- ## The parts of an entry behind its first number
 
-abbrev pub Form : Type 1
-Form = ℕ → List ℕ → List ℕ → Type 0
+abbrev pub ValueForm : Type 1
+ValueForm = ℕ → List ℕ → List ℕ → Type 0
 
 -- To, Next and Kind alike: a sign x and then an X, or nothing, which has a value of its own; and how the reader takes it
-abbrev pub Optional : ℕ → Form → ℕ → Form
+abbrev pub Optional : ℕ → ValueForm → ℕ → ValueForm
 Optional x X none v s r = ((m : List ℕ) × Token (x ∷ []) s m × X v m r) ⊎ ((v ≡ none) × (s ≡ r))
 
 abbrev pub optionalAt : ℕ → (ℕ → Num) → ℕ → List ℕ → ℕ → Num
 optionalAt x f none s q = pick (eqb (byteOf s (skipAt s q)) x) (f (skipAt s q + 1)) (Val none q)
 
-module _ (x : ℕ) (X : Form) (none v : ℕ) (t r : List ℕ) where
+module _ (x : ℕ) (X : ValueForm) (none v : ℕ) (t r : List ℕ) where
   -- in its place may stand its sign, and what may stand behind it
   optional-front : (l : List ℕ) → Solid (x ∷ []) → In (front r) l → Optional x X none v t r → In (front t) (x ∷ l)
   optional-front l n i (inl (m, k, j)) = inl (ap first (token-front (x ∷ []) t m n k))
@@ -136,10 +138,10 @@ module _ (x : ℕ) (X : Form) (none v : ℕ) (t r : List ℕ) where
       → ((m : List ℕ) (p : ℕ) → X v m r → drop p s ≡ m → Reads s (f p) v r)
       → Optional x X none v t r → (q : ℕ) → drop q s ≡ t → Reads s (optionalAt x f none s q) v r
   optional-reads l n a i s f g (inl (m, k, j)) q h =
-      let b = g m (skipAt s q + 1) j (token-past (x ∷ []) t m n k s q h) in
+      let b = g m (skipAt s q + 1) j (Token⇒past (x ∷ []) t m n k s q h) in
       (b .0, pick-yes _ _ _ (eq-eqb (byteOf s (skipAt s q)) x (sign-here s q x t m n k h)) ∙ b .1, b .2)
   optional-reads l n a i s f g (inr (e, k)) q h =
-      let c : eqb (front r) x ≡ false = all-in (λ (y : ℕ). eqb y x ≡ false) (front r) l a i in
+      let c : eqb (front r) x ≡ false = All-In⁻ (λ (y : ℕ). eqb y x ≡ false) (front r) l a i in
       (q, pick-no _ _ _ (ap (λ (y : ℕ). eqb y x) (front-here s q r (h ∙ k)) ∙ c) ∙ ap (λ (y : ℕ). Val y q) (sym e), h ∙ k)
 
   optional-less : ((m : List ℕ) → X v m r → length r ≤ length m) → Optional x X none v t r → length r ≤ length t
@@ -147,7 +149,7 @@ module _ (x : ℕ) (X : Form) (none v : ℕ) (t r : List ℕ) where
   optional-less g (inr (e, k)) = omega (arith, ap length k)
 
 -- a letter is a token of one byte, by which it is read, or there is none
-abbrev OneLetter : Form
+abbrev OneLetter : ValueForm
 OneLetter k t r =
     ((x : ℕ) × Solid (x ∷ []) × Token (x ∷ []) t r × ((s : List ℕ) (q p : ℕ) → byteOf s p ≡ x → letterAt s q p ≡ Val k (p + 1)))
     ⊎ ((k ≡ 1) × (t ≡ r))
@@ -171,7 +173,7 @@ letter-reads : (s : List ℕ) (k : ℕ) (r : List ℕ) → In (front r) ends →
 letter-reads s k r i t q l h = by-sign (letter-sign k t r l)
   where
     by-sign : OneLetter k t r → Reads s (letterAt s q (skipAt s q)) k r
-    by-sign (inl (x, n, w, g)) = (skipAt s q + 1, g s q (skipAt s q) (sign-here s q x t r n w h), token-past (x ∷ []) t r n w s q h)
+    by-sign (inl (x, n, w, g)) = (skipAt s q + 1, g s q (skipAt s q) (sign-here s q x t r n w h), Token⇒past (x ∷ []) t r n w s q h)
     by-sign (inr (e, w)) = (q, letter-none s q (skipAt s q) (front r) (front-here s q r (h ∙ w)) i ∙ ap (λ (y : ℕ). Val y q) (sym e), h ∙ w)
 
 letter-less : (k : ℕ) (r t : List ℕ) → Letter k t r → length r ≤ length t
@@ -183,7 +185,7 @@ letter-less k r t l = by-sign (letter-sign k t r l)
 
 -- ## Entries
 
-module _ (e : Column) (t r : List ℕ) (i : Entry e t r) where
+module _ (e : Entry) (t r : List ℕ) (i : EntryText e t r) where
   -- what may stand behind it decides what may stand behind its parts
   module _ (f : In (front r) ends) where
     next-front : In (front (i .behind-next)) (46 ∷ ends)
@@ -216,8 +218,8 @@ module _ (e : Column) (t r : List ℕ) (i : Entry e t r) where
         ends (refl, refl) (refl, (refl, tt)) f
         s (λ p. letterAt s p (skipAt s p)) (letter-reads s (e .kind) r f) (i .kind)
 
-    entry-reads : (s : List ℕ) (q : ℕ) → drop q s ≡ t → (z : ℕ) × (itemAt s q ≡ itemSep s e (skipAt s z)) × (drop z s ≡ r)
-    unfolding itemAt itemFrom itemTo itemNext itemEnd
+    entry-reads : (s : List ℕ) (q : ℕ) → drop q s ≡ t → (z : ℕ) × (entryAt s q ≡ entrySep s e (skipAt s z)) × (drop z s ≡ r)
+    unfolding entryAt entryFrom entryTo entryNext entryEnd
     entry-reads s q h =
         let a = number-reads s (e .lo) (i .behind-lo) lo-front t q (i .lo) h in
         let b = to-reads s (a .0) (a .2) in
@@ -236,55 +238,55 @@ module _ (e : Column) (t r : List ℕ) (i : Entry e t r) where
       )
 
 -- what follows an entry
-more-ends : (es : List Column) (r : List ℕ) → MoreEntries es r → In (front r) ends
+more-ends : (es : List Entry) (r : List ℕ) → MoreEntries es r → In (front r) ends
 more-ends [] r a = inr (inl (ap first (strip-all r a)))
 more-ends (e ∷ es) r (m, t, k, i, a) = inl (ap first (token-front (44 ∷ []) r m (refl, refl) k))
 
-comma-more : (s : List ℕ) (e : Column) (z : ℕ) (r m : List ℕ) → drop z s ≡ r → Token (44 ∷ []) r m
-    → itemSep s e (skipAt s z) ≡ More e (skipAt s z + 1)
+comma-more : (s : List ℕ) (e : Entry) (z : ℕ) (r m : List ℕ) → drop z s ≡ r → Token (44 ∷ []) r m
+    → entrySep s e (skipAt s z) ≡ More e (skipAt s z + 1)
 comma-more s e z r m h k =
     let i = token-inside s z (44 ∷ []) r m (refl, refl) k h in
     sep-more s e (skipAt s z) i (sym (getD-in s (skipAt s z) i) ∙ sign-here s z 44 r m (refl, refl) k h)
 
 -- there are no more entries than bytes
-more-few : (es : List Column) (r : List ℕ) → MoreEntries es r → length es ≤ length r
+more-few : (es : List Entry) (r : List ℕ) → MoreEntries es r → length es ≤ length r
 more-few [] r a = omega arith
 more-few (e ∷ es) r (m, t, k, i, a) = omega (arith, token-less (44 ∷ []) r m k, entry-less e m t i, more-few es t a)
 
--- from an item on these are read, and every one has its form
-abbrev GoesOn : ℕ → List ℕ → Item → List Column → Type 0
-GoesOn f s x es = (columnsGo f s x ≡ es) × (wellGo f s x ≡ true)
+-- from an entry that was read on, these are read, and every one has its form
+abbrev GoesOn : ℕ → List ℕ → ReadEntry → List Entry → Type 0
+GoesOn f s x es = (entriesGo f s x ≡ es) × (wellGo f s x ≡ true)
 
-go-last : (f : ℕ) (s : List ℕ) (e : Column) → GoesOn f s (Last e) (e ∷ [])
-unfolding columnsGo wellGo
+go-last : (f : ℕ) (s : List ℕ) (e : Entry) → GoesOn f s (Last e) (e ∷ [])
+unfolding entriesGo wellGo
 go-last zero s e = (refl, refl)
 go-last (suc f) s e = (refl, refl)
 
-go-more : (f : ℕ) (s : List ℕ) (e : Column) (z : ℕ) (es : List Column) → GoesOn f s (itemAt s z) es → GoesOn (suc f) s (More e z) (e ∷ es)
-unfolding columnsGo wellGo
+go-more : (f : ℕ) (s : List ℕ) (e : Entry) (z : ℕ) (es : List Entry) → GoesOn f s (entryAt s z) es → GoesOn (suc f) s (More e z) (e ∷ es)
+unfolding entriesGo wellGo
 go-more f s e z es a = (rw (a .0), a .1)
 
-go-reads : (f : ℕ) (s : List ℕ) (q : ℕ) (e : Column) (es : List Column) (t r : List ℕ) → Entry e t r → MoreEntries es r → drop q s ≡ t
-    → length es ≤ f → GoesOn f s (itemAt s q) (e ∷ es)
+go-reads : (f : ℕ) (s : List ℕ) (q : ℕ) (e : Entry) (es : List Entry) (t r : List ℕ) → EntryText e t r → MoreEntries es r → drop q s ≡ t
+    → length es ≤ f → GoesOn f s (entryAt s q) (e ∷ es)
 go-reads f s q e [] t r i a h fuel =
     let b = entry-reads e t r i (more-ends [] r a) s q h in
-    rw (b .1, sep-last s e (skipAt s (b .0)) (blank-left s (b .0) r (b .2) a)) (go-last f s e)
+    rw (b .1, sep-last s e (skipAt s (b .0)) (Blanks⇒skipAt s (b .0) r (b .2) a)) (go-last f s e)
 go-reads zero s q e (d ∷ es) t r i a h fuel = absurd (omega arith)
 go-reads (suc f) s q e (d ∷ es) t r i (m, n, k, j, a) h fuel =
     let b = entry-reads e t r i (more-ends (d ∷ es) r (m, n, k, j, a)) s q h in
     let p : ℕ = skipAt s (b .0) + 1 in
     rw (b .1, comma-more s e (b .0) r m (b .2) k)
-    (go-more f s e p (d ∷ es) (go-reads f s p d es m n j a (token-past (44 ∷ []) r m (refl, refl) k s (b .0) (b .2)) (omega arith)))
+    (go-more f s e p (d ∷ es) (go-reads f s p d es m n j a (Token⇒past (44 ∷ []) r m (refl, refl) k s (b .0) (b .2)) (omega arith)))
 
 -- the entries from a place on
-abbrev EntriesAt : List ℕ → ℕ → List Column → Type 0
-EntriesAt s q es = (columnsAt s q ≡ es) × (wellAt s q ≡ true)
+abbrev EntriesAt : List ℕ → ℕ → List Entry → Type 0
+EntriesAt s q es = (entriesAt s q ≡ es) × (wellAt s q ≡ true)
 
-entries-read : (s : List ℕ) (q : ℕ) (es : List Column) (t : List ℕ) → Entries es t → drop q s ≡ t → EntriesAt s q es
-unfolding columnsAt wellAt
+entries-read : (s : List ℕ) (q : ℕ) (es : List Entry) (t : List ℕ) → Entries es t → drop q s ≡ t → EntriesAt s q es
+unfolding entriesAt wellAt
 entries-read s q [] t a h = absurd a
 entries-read s q (e ∷ es) t (r, i, a) h =
-    go-reads (length s) s q e es t r i a h (omega (arith, left-here s q t h, entry-less e t r i, more-few es r a))
+    go-reads (length s) s q e es t r i a h (omega (arith, drop⇒length s q t h, entry-less e t r i, more-few es r a))
 
 -- ## Rows
 
@@ -298,10 +300,10 @@ skip-bare p (b ∷ l) =
     P : List ℕ → Type 0
     P x = skipOf p x ≡ p
 
-pub item-bare : (s : List ℕ) (q : ℕ) → itemAt s (skipAt s q) ≡ itemAt s q
-unfolding itemAt
-item-bare s q =
-    ap (λ (p : ℕ). itemFrom s (numberAt s p)) (ap (skipOf (skipAt s q)) (skip-here s q (drop q s) refl) ∙ skip-bare (skipAt s q) (drop q s))
+pub entry-bare : (s : List ℕ) (q : ℕ) → entryAt s (skipAt s q) ≡ entryAt s q
+unfolding entryAt
+entry-bare s q =
+    ap (λ (p : ℕ). entryFrom s (numberAt s p)) (ap (skipOf (skipAt s q)) (drop⇒skipAt s q (drop q s) refl) ∙ skip-bare (skipAt s q) (drop q s))
 
 -- what opens a row: a digit, so none of the words, or one of them
 open-digit : (s : List ℕ) (p : ℕ) (ds r : List ℕ) → drop p s ≡ ds ++ r → AllDigits ds → 1 ≤ length ds → openAt s p ≡ Val 0 p
@@ -318,13 +320,13 @@ open-surrogates : (s : List ℕ) (p : ℕ) (r : List ℕ) → drop p s ≡ ascii
 unfolding openAt begins
 open-surrogates s p r h = rw h
 
-module _ (k : ℕ) (es : List Column) (v : List ℕ) where
+module _ (k : ℕ) (es : List Entry) (v : List ℕ) where
   -- a row is read as these entries
   abbrev ReadRow : Type 0
-  ReadRow = (columnsOf v ≡ es) × (valueOf State v ≡ Row k (anyOf laterColumn es) (anyOf overColumn es))
+  ReadRow = (entriesOf v ≡ es) × (valueOf State v ≡ Row k (anyOf unbuiltEntry es) (anyOf overEntry es))
 
   open-row : (q : ℕ) → skipAt v 0 < length v → openAt v (skipAt v 0) ≡ Val k q → EntriesAt v q es → ReadRow
-  unfolding columnsOf columnsFrom valueOf rowIn rowFrom
+  unfolding entriesOf entriesFrom valueOf rowIn rowFrom
   open-row q h o a =
       let b = lt-leb (length v) (skipAt v 0) h in
       (rw (b, o) (a .0), rw (b, o, a .0, a .1))
@@ -336,28 +338,28 @@ module _ (k : ℕ) (es : List Column) (v : List ℕ) where
   word-row w n f (m, r, x, c, a) =
       let q : ℕ = skipAt v 0 + length w in
       let z : ℕ = skipAt v q + 1 in
-      let h : drop q v ≡ m = token-past w v m n x v 0 refl in
-      let o : openAt v (skipAt v 0) ≡ Val k z = f m (token-here w v m n x v 0 refl) ∙ rw (sign-here v q 44 m r (refl, refl) c h) in
-      open-row z (token-inside v 0 w v m n x refl) o (entries-read v z es r a (token-past (44 ∷ []) m r (refl, refl) c v q h))
+      let h : drop q v ≡ m = Token⇒past w v m n x v 0 refl in
+      let o : openAt v (skipAt v 0) ≡ Val k z = f m (Token⇒skipAt w v m n x v 0 refl) ∙ rw (sign-here v q 44 m r (refl, refl) c h) in
+      open-row z (token-inside v 0 w v m n x refl) o (entries-read v z es r a (Token⇒past (44 ∷ []) m r (refl, refl) c v q h))
 
-digit-row : (es : List Column) (v : List ℕ) (n : ℕ) (r : List ℕ) → Number n v r → EntriesAt v 0 es → ReadRow 0 es v
-unfolding columnsAt wellAt
+digit-row : (es : List Entry) (v : List ℕ) (n : ℕ) (r : List ℕ) → Number n v r → EntriesAt v 0 es → ReadRow 0 es v
+unfolding entriesAt wellAt
 digit-row es v n r (ds, d, k) a =
     let s = number-solid n v r (ds, d, k) in
     open-row 0 es v (skipAt v 0) (token-inside v 0 ds v r s k refl)
-    (open-digit v (skipAt v 0) ds r (token-here ds v r s k v 0 refl) (hex-all 0 ds n (d .2)) (d .0)) (rw (item-bare v 0) a)
+    (open-digit v (skipAt v 0) ds r (Token⇒skipAt ds v r s k v 0 refl) (Hex⇒AllDigits 0 ds n (d .2)) (d .0)) (rw (entry-bare v 0) a)
 
-plain-row : (es : List Column) (v : List ℕ) → Entries es v → ReadRow 0 es v
+plain-row : (es : List Entry) (v : List ℕ) → Entries es v → ReadRow 0 es v
 plain-row [] v a = absurd a
 plain-row (e ∷ es) v (r, i, a) = digit-row (e ∷ es) v (e .lo) (i .behind-lo) (i .lo) (entries-read v 0 (e ∷ es) v (r, i, a) refl)
 
 blank-row : (v : List ℕ) → Blanks v → ReadRow 0 [] v
-unfolding columnsOf valueOf rowIn anyOf
-blank-row v b = let e = le-leb (length v) (skipAt v 0) (blank-left v 0 v refl b) in (rw e, rw e)
+unfolding entriesOf valueOf rowIn anyOf
+blank-row v b = let e = le-leb (length v) (skipAt v 0) (Blanks⇒skipAt v 0 v refl b) in (rw e, rw e)
 
 -- a row of the grammar is read as it is written
-pub row-reads : (k : ℕ) (es : List Column) (v : List ℕ) → RowValue k es v
-    → (columnsOf v ≡ es) × (valueOf State v ≡ Row k (anyOf laterColumn es) (anyOf overColumn es))
+pub row-reads : (k : ℕ) (es : List Entry) (v : List ℕ) → RowValue k es v
+    → (entriesOf v ≡ es) × (valueOf State v ≡ Row k (anyOf unbuiltEntry es) (anyOf overEntry es))
 row-reads k es v (inl (e, inl (n, b))) = rw (e, n) (blank-row v b)
 row-reads k es v (inl (e, inr a)) = rw e (plain-row es v a)
 row-reads k es v (inr (inl (e, a))) = rw e (word-row 1 es v (ascii "initial") (refl, refl) (open-initial v (skipAt v 0)) a)

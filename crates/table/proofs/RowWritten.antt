@@ -12,24 +12,25 @@ use Rattle.lists.specs.Pick.{pick}
 use Rattle.lists.specs.Ascii.{ascii}
 use Rattle.lists.proofs.Laws.{clash}
 use Rattle.lists.proofs.Cases.{pick-case}
-use Rattle.table.specs.Grammar.{Blanks, Token, Number, To, Next, Letter, Kind, Entry, MoreEntries, Entries, Opened, RowValue}
-use Rattle.table.specs.Text.{digitOf, byteOf, skipAt, begins, numberAt}
-use Rattle.table.specs.Row.{toAt, nextAt, letterAt, endAt, itemSep, itemEnd, itemNext, itemTo, itemFrom, itemAt, columnsGo, wellGo, columnsAt, wellAt, commaAt, openAt, columnsFrom, columnsOf, laterColumn, overColumn}
-use Rattle.table.specs.Rules.{anyOf}
+use Rattle.table.specs.Grammar.{Blanks, Token, Number, To, Next, Letter, Kind, EntryText, MoreEntries, Entries, Opened, RowValue}
+use Rattle.table.specs.Text.{digitOf, byteOf, skipAt, numberAt}
+use Rattle.lists.specs.Strings.{begins}
+use Rattle.table.specs.Row.{toAt, nextAt, letterAt, endAt, entrySep, entryEnd, entryNext, entryTo, entryFrom, entryAt, entriesGo, wellGo, entriesAt, wellAt, commaAt, openAt, entriesFrom, entriesOf, unbuiltEntry, overEntry}
+use Rattle.lists.specs.Tests.{anyOf}
 use Rattle.table.specs.Header.{rowFrom, rowIn, valueOf}
-use Rattle.table.specs.declared.header.Key.the-variants.{State}
-use Rattle.table.specs.declared.header.Value.{Value}
-use Rattle.table.specs.declared.header.Value.the-variants.{Unfit, Row}
 use Rattle.table.specs.declared.text.Num.{Num}
 use Rattle.table.specs.declared.text.Num.the-variants.{Val, Bad}
-use Rattle.table.specs.declared.header.Column.{Column}
-use Rattle.table.specs.declared.header.Item.{Item}
-use Rattle.table.specs.declared.header.Item.the-variants.{More, Last, Wrong}
-use Rattle.table.proofs.Tokens.{at-byte, left-blank, token-made, sign-written, word-written, digit-inside, hexFrom, hex-made}
-use Rattle.table.proofs.RowRead.{Form, Optional, optionalAt, item-bare}
+use Rattle.table.proofs.Tokens.{at-byte, skipAt⇒Blanks, drop⇒Token, byteOf⇒Token, begins⇒Token, digit-inside, hexFrom, hexFrom⇒Hex}
+use Rattle.table.proofs.RowRead.{ValueForm, Optional, optionalAt, entry-bare}
+use Rattle.table.specs.declared.value.Key.the-variants.{State}
+use Rattle.table.specs.declared.value.Value.{Value}
+use Rattle.table.specs.declared.value.Value.the-variants.{Unfit, Row}
+use Rattle.table.specs.declared.row.Entry.{Entry}
+use Rattle.table.specs.declared.row.ReadEntry.{ReadEntry}
+use Rattle.table.specs.declared.row.ReadEntry.the-variants.{More, Last, Wrong}
 
 -- what a reader of a part answers is such a part
-abbrev Part : Form → List ℕ → ℕ → Num → Type 0
+abbrev Part : ValueForm → List ℕ → ℕ → Num → Type 0
 Part X s q Bad = Unit {0}
 Part X s q (Val v e) = X v (drop q s) (drop e s)
 
@@ -43,10 +44,10 @@ number-written s q =
     (λ j. let b = ltb-true (digitOf y) 16 j in
     let k = at-byte s (p + 1) (p + 2) y (omega arith) refl (digit-inside y b) in (
       x ∷ y ∷ [],
-      (omega arith, omega arith, hex-made 0 (x ∷ y ∷ []) (digitOf x * 16 + digitOf y) (a, (b, tt)) (omega arith)),
-      token-made s q (p + 2) (x ∷ y ∷ []) (h ∙ ap (λ (l : List ℕ). x ∷ l) k),
+      (omega arith, omega arith, hexFrom⇒Hex 0 (x ∷ y ∷ []) (digitOf x * 16 + digitOf y) (a, (b, tt)) (omega arith)),
+      drop⇒Token s q (p + 2) (x ∷ y ∷ []) (h ∙ ap (λ (l : List ℕ). x ∷ l) k),
     ))
-    (λ _. (x ∷ [], (omega arith, omega arith, hex-made 0 (x ∷ []) (digitOf x) (a, tt) (omega arith)), token-made s q (p + 1) (x ∷ []) h)))
+    (λ _. (x ∷ [], (omega arith, omega arith, hexFrom⇒Hex 0 (x ∷ []) (digitOf x) (a, tt) (omega arith)), drop⇒Token s q (p + 1) (x ∷ []) h)))
     (λ _. tt)
   where
     p : ℕ
@@ -59,7 +60,7 @@ number-written s q =
     y = byteOf s (p + 1)
 
 -- a sign and such a part, or none
-module _ (x : ℕ) (X : Form) (none : ℕ) (s : List ℕ) where
+module _ (x : ℕ) (X : ValueForm) (none : ℕ) (s : List ℕ) where
   optional-part : (q z : ℕ) (n : Num) → Token (x ∷ []) (drop q s) (drop z s) → Part X s z n → Part (Optional x X none) s q n
   optional-part q z Bad k a = tt
   optional-part q z (Val v e) k a = inl (drop z s, k, a)
@@ -68,7 +69,7 @@ module _ (x : ℕ) (X : Form) (none : ℕ) (s : List ℕ) where
       → Part (Optional x X none) s q (optionalAt x f none s q)
   optional-written f n g q =
       pick-case (Part (Optional x X none) s q) (eqb (byteOf s (skipAt s q)) x) _ _
-      (λ e. optional-part q (skipAt s q + 1) (f (skipAt s q + 1)) (sign-written s q x e n) (g (skipAt s q + 1)))
+      (λ e. optional-part q (skipAt s q + 1) (f (skipAt s q + 1)) (byteOf⇒Token s q x e n) (g (skipAt s q + 1)))
       (λ _. inr (refl, refl))
 
 to-written : (s : List ℕ) (lo q : ℕ) → Part (To lo) s q (toAt s lo q)
@@ -82,10 +83,10 @@ next-written s q = optional-written 58 Number 256 s (λ p. numberAt s (skipAt s 
 letter-written : (s : List ℕ) (q : ℕ) → Part Letter s q (letterAt s q (skipAt s q))
 unfolding letterAt
 letter-written s q =
-    pick-case P (eqb (byteOf s (skipAt s q)) 112) _ _ (λ e. inl (refl, sign-written s q 112 e (λ x. omega arith)))
-    (λ _. pick-case P (eqb (byteOf s (skipAt s q)) 117) _ _ (λ e. inr (inl (refl, sign-written s q 117 e (λ x. omega arith))))
-    (λ _. pick-case P (eqb (byteOf s (skipAt s q)) 105) _ _ (λ e. inr (inr (inl (refl, sign-written s q 105 e (λ x. omega arith)))))
-    (λ _. pick-case P (eqb (byteOf s (skipAt s q)) 115) _ _ (λ e. inr (inr (inr (inl (refl, sign-written s q 115 e (λ x. omega arith))))))
+    pick-case P (eqb (byteOf s (skipAt s q)) 112) _ _ (λ e. inl (refl, byteOf⇒Token s q 112 e (λ x. omega arith)))
+    (λ _. pick-case P (eqb (byteOf s (skipAt s q)) 117) _ _ (λ e. inr (inl (refl, byteOf⇒Token s q 117 e (λ x. omega arith))))
+    (λ _. pick-case P (eqb (byteOf s (skipAt s q)) 105) _ _ (λ e. inr (inr (inl (refl, byteOf⇒Token s q 105 e (λ x. omega arith)))))
+    (λ _. pick-case P (eqb (byteOf s (skipAt s q)) 115) _ _ (λ e. inr (inr (inr (inl (refl, byteOf⇒Token s q 115 e (λ x. omega arith))))))
     (λ _. inr (inr (inr (inr (refl, refl))))))))
   where
     P : Num → Type 0
@@ -98,120 +99,120 @@ kind-written s q = optional-written 46 Letter 0 s (λ p. letterAt s p (skipAt s 
 -- ## Entries
 
 -- an entry and what is behind it
-abbrev ItemOf : List ℕ → ℕ → Item → Type 0
-ItemOf s q Wrong = Unit {0}
-ItemOf s q (Last c) = (r : List ℕ) × Entry c (drop q s) r × Blanks r
-ItemOf s q (More c z) = (r : List ℕ) × Entry c (drop q s) r × Token (ascii ",") r (drop z s)
+abbrev ReadEntryOf : List ℕ → ℕ → ReadEntry → Type 0
+ReadEntryOf s q Wrong = Unit {0}
+ReadEntryOf s q (Last c) = (r : List ℕ) × EntryText c (drop q s) r × Blanks r
+ReadEntryOf s q (More c z) = (r : List ℕ) × EntryText c (drop q s) r × Token (ascii ",") r (drop z s)
 
-sep-written : (s : List ℕ) (q z : ℕ) (c : Column) → Entry c (drop q s) (drop z s) → ItemOf s q (itemSep s c (skipAt s z))
-unfolding itemSep
+sep-written : (s : List ℕ) (q z : ℕ) (c : Entry) → EntryText c (drop q s) (drop z s) → ReadEntryOf s q (entrySep s c (skipAt s z))
+unfolding entrySep
 sep-written s q z c i =
-    pick-case (ItemOf s q) (leb (length s) (skipAt s z)) _ _ (λ e. (drop z s, i, left-blank s z (leb-true (length s) (skipAt s z) e)))
-    (λ _. pick-case (ItemOf s q) (eqb (byteOf s (skipAt s z)) 44) _ _
-    (λ e. (drop z s, i, sign-written s z 44 e (λ x. omega arith))) (λ _. tt))
+    pick-case (ReadEntryOf s q) (leb (length s) (skipAt s z)) _ _ (λ e. (drop z s, i, skipAt⇒Blanks s z (leb-true (length s) (skipAt s z) e)))
+    (λ _. pick-case (ReadEntryOf s q) (eqb (byteOf s (skipAt s z)) 44) _ _
+    (λ e. (drop z s, i, byteOf⇒Token s z 44 e (λ x. omega arith))) (λ _. tt))
 
 module _ (s : List ℕ) (q : ℕ) where
-  end-item : (lo q1 hi q2 n q3 : ℕ) (x : Num) → Number lo (drop q s) (drop q1 s) → To lo hi (drop q1 s) (drop q2 s)
-      → Next n (drop q2 s) (drop q3 s) → Part Kind s q3 x → ItemOf s q (itemEnd s lo hi n x)
-  unfolding itemEnd
-  end-item lo q1 hi q2 n q3 Bad a b c d = tt
-  end-item lo q1 hi q2 n q3 (Val k z) a b c d =
+  end-entry : (lo q1 hi q2 n q3 : ℕ) (x : Num) → Number lo (drop q s) (drop q1 s) → To lo hi (drop q1 s) (drop q2 s)
+      → Next n (drop q2 s) (drop q3 s) → Part Kind s q3 x → ReadEntryOf s q (entryEnd s lo hi n x)
+  unfolding entryEnd
+  end-entry lo q1 hi q2 n q3 Bad a b c d = tt
+  end-entry lo q1 hi q2 n q3 (Val k z) a b c d =
       sep-written s q z (record { lo = lo; hi = hi; next = n; kind = k })
       (record { behind-lo = drop q1 s; behind-hi = drop q2 s; behind-next = drop q3 s; lo = a; hi = b; next = c; kind = d })
 
-  next-item : (lo q1 hi q2 : ℕ) (x : Num) → Number lo (drop q s) (drop q1 s) → To lo hi (drop q1 s) (drop q2 s)
-      → Part Next s q2 x → ItemOf s q (itemNext s lo hi x)
-  unfolding itemNext
-  next-item lo q1 hi q2 Bad a b c = tt
-  next-item lo q1 hi q2 (Val n q3) a b c = end-item lo q1 hi q2 n q3 (endAt s q3) a b c (kind-written s q3)
+  next-entry : (lo q1 hi q2 : ℕ) (x : Num) → Number lo (drop q s) (drop q1 s) → To lo hi (drop q1 s) (drop q2 s)
+      → Part Next s q2 x → ReadEntryOf s q (entryNext s lo hi x)
+  unfolding entryNext
+  next-entry lo q1 hi q2 Bad a b c = tt
+  next-entry lo q1 hi q2 (Val n q3) a b c = end-entry lo q1 hi q2 n q3 (endAt s q3) a b c (kind-written s q3)
 
-  to-item : (lo q1 : ℕ) (x : Num) → Number lo (drop q s) (drop q1 s) → Part (To lo) s q1 x → ItemOf s q (itemTo s lo x)
-  unfolding itemTo
-  to-item lo q1 Bad a b = tt
-  to-item lo q1 (Val hi q2) a b = next-item lo q1 hi q2 (nextAt s q2) a b (next-written s q2)
+  to-entry : (lo q1 : ℕ) (x : Num) → Number lo (drop q s) (drop q1 s) → Part (To lo) s q1 x → ReadEntryOf s q (entryTo s lo x)
+  unfolding entryTo
+  to-entry lo q1 Bad a b = tt
+  to-entry lo q1 (Val hi q2) a b = next-entry lo q1 hi q2 (nextAt s q2) a b (next-written s q2)
 
-  from-item : (x : Num) → Part Number s q x → ItemOf s q (itemFrom s x)
-  unfolding itemFrom
-  from-item Bad a = tt
-  from-item (Val lo q1) a = to-item lo q1 (toAt s lo q1) a (to-written s lo q1)
+  from-entry : (x : Num) → Part Number s q x → ReadEntryOf s q (entryFrom s x)
+  unfolding entryFrom
+  from-entry Bad a = tt
+  from-entry (Val lo q1) a = to-entry lo q1 (toAt s lo q1) a (to-written s lo q1)
 
-  item-written : ItemOf s q (itemAt s q)
-  unfolding itemAt
-  item-written = from-item (numberAt s (skipAt s q)) (number-written s q)
+  entry-written : ReadEntryOf s q (entryAt s q)
+  unfolding entryAt
+  entry-written = from-entry (numberAt s (skipAt s q)) (number-written s q)
 
-entries-behind : (es : List Column) (r t : List ℕ) → Token (ascii ",") r t → Entries es t → MoreEntries es r
+entries-behind : (es : List Entry) (r t : List ℕ) → Token (ascii ",") r t → Entries es t → MoreEntries es r
 entries-behind [] r t k a = absurd a
 entries-behind (e ∷ es) r t k (n, i, a) = (t, n, k, i, a)
 
-go-written : (f : ℕ) (s : List ℕ) (q : ℕ) (x : Item) → ItemOf s q x → wellGo f s x ≡ true → Entries (columnsGo f s x) (drop q s)
-unfolding wellGo columnsGo
+go-written : (f : ℕ) (s : List ℕ) (q : ℕ) (x : ReadEntry) → ReadEntryOf s q x → wellGo f s x ≡ true → Entries (entriesGo f s x) (drop q s)
+unfolding wellGo entriesGo
 go-written zero s q Wrong i w = absurd (clash w refl)
 go-written zero s q (Last c) i w = i
 go-written zero s q (More c z) i w = absurd (clash w refl)
 go-written (suc f) s q Wrong i w = absurd (clash w refl)
 go-written (suc f) s q (Last c) i w = i
 go-written (suc f) s q (More c z) (r, i, k) w =
-    (r, i, entries-behind (columnsGo f s (itemAt s z)) r (drop z s) k (go-written f s z (itemAt s z) (item-written s z) w))
+    (r, i, entries-behind (entriesGo f s (entryAt s z)) r (drop z s) k (go-written f s z (entryAt s z) (entry-written s z) w))
 
 -- where every entry from a place on has its form, they are the grammar's
-entries-written : (s : List ℕ) (q : ℕ) → wellAt s q ≡ true → Entries (columnsAt s q) (drop q s)
-unfolding wellAt columnsAt
-entries-written s q w = go-written (length s) s q (itemAt s q) (item-written s q) w
+entries-written : (s : List ℕ) (q : ℕ) → wellAt s q ≡ true → Entries (entriesAt s q) (drop q s)
+unfolding wellAt entriesAt
+entries-written s q w = go-written (length s) s q (entryAt s q) (entry-written s q) w
 
 -- ## Rows
 
 -- behind what opens a row, entries make it a row
 abbrev Opens : List ℕ → Num → Type 0
 Opens v Bad = Unit {0}
-Opens v (Val k q) = wellAt v q ≡ true → RowValue k (columnsAt v q) v
+Opens v (Val k q) = wellAt v q ≡ true → RowValue k (entriesAt v q) v
 
 plain-opens : (v : List ℕ) → Opens v (Val 0 (skipAt v 0))
-unfolding wellAt columnsAt
-plain-opens v = rw (item-bare v 0) (λ w. inl (refl, inr (entries-written v 0 w)))
+unfolding wellAt entriesAt
+plain-opens v = rw (entry-bare v 0) (λ w. inl (refl, inr (entries-written v 0 w)))
 
-word-opens : (v w : List ℕ) (k at : ℕ) → ((es : List Column) → Opened w es v → RowValue k es v) → Token w v (drop at v)
+word-opens : (v w : List ℕ) (k at : ℕ) → ((es : List Entry) → Opened w es v → RowValue k es v) → Token w v (drop at v)
     → Opens v (commaAt v k (skipAt v at))
 unfolding commaAt
 word-opens v w k at f t =
     let q : ℕ = skipAt v at + 1 in
     pick-case (Opens v) (eqb (byteOf v (skipAt v at)) 44) _ _
-    (λ e a. f (columnsAt v q) (drop at v, drop q v, t, sign-written v at 44 e (λ x. omega arith), entries-written v q a))
+    (λ e a. f (entriesAt v q) (drop at v, drop q v, t, byteOf⇒Token v at 44 e (λ x. omega arith), entries-written v q a))
     (λ _. tt)
 
 open-written : (v : List ℕ) → Opens v (openAt v (skipAt v 0))
 unfolding openAt
 open-written v =
     pick-case (Opens v) (begins (ascii "initial") (drop (skipAt v 0) v)) _ _
-    (λ e. word-opens v (ascii "initial") 1 (skipAt v 0 + 7) (λ es o. inr (inl (refl, o))) (word-written v 0 (ascii "initial") e))
+    (λ e. word-opens v (ascii "initial") 1 (skipAt v 0 + 7) (λ es o. inr (inl (refl, o))) (begins⇒Token v 0 (ascii "initial") e))
     (λ _. pick-case (Opens v) (begins (ascii "surrogates") (drop (skipAt v 0) v)) _ _
-    (λ e. word-opens v (ascii "surrogates") 2 (skipAt v 0 + 10) (λ es o. inr (inr (refl, o))) (word-written v 0 (ascii "surrogates") e))
+    (λ e. word-opens v (ascii "surrogates") 2 (skipAt v 0 + 10) (λ es o. inr (inr (refl, o))) (begins⇒Token v 0 (ascii "surrogates") e))
     (λ _. plain-opens v))
 
 -- x is no row, or v is the grammar's row of these entries and x says of it what they do
-abbrev RowOf : List ℕ → List Column → Value → Type 0
+abbrev RowOf : List ℕ → List Entry → Value → Type 0
 RowOf v es x =
     (x ≡ Unfit)
-    ⊎ ((k : ℕ) × (l : Bool) × (o : Bool) × (x ≡ Row k l o) × RowValue k es v × (l ≡ anyOf laterColumn es) × (o ≡ anyOf overColumn es))
+    ⊎ ((k : ℕ) × (l : Bool) × (o : Bool) × (x ≡ Row k l o) × RowValue k es v × (l ≡ anyOf unbuiltEntry es) × (o ≡ anyOf overEntry es))
 
-from-cases : (v : List ℕ) (n : Num) → Opens v n → RowOf v (columnsFrom v n) (rowFrom v n)
-unfolding rowFrom columnsFrom
+from-cases : (v : List ℕ) (n : Num) → Opens v n → RowOf v (entriesFrom v n) (rowFrom v n)
+unfolding rowFrom entriesFrom
 from-cases v Bad h = inl refl
 from-cases v (Val k q) h =
-    pick-case (RowOf v (columnsAt v q)) (wellAt v q) _ _
-    (λ w. inr (k, anyOf laterColumn (columnsAt v q), anyOf overColumn (columnsAt v q), refl, h w, refl, refl)) (λ _. inl refl)
+    pick-case (RowOf v (entriesAt v q)) (wellAt v q) _ _
+    (λ w. inr (k, anyOf unbuiltEntry (entriesAt v q), anyOf overEntry (entriesAt v q), refl, h w, refl, refl)) (λ _. inl refl)
 
 -- a value is no row, or the grammar's row of the entries that are read
 abbrev pub RowCase : List ℕ → Type 0
 RowCase v =
     (valueOf State v ≡ Unfit)
-    ⊎ ((k : ℕ) × (l : Bool) × (o : Bool) × (valueOf State v ≡ Row k l o) × RowValue k (columnsOf v) v
-    × (l ≡ anyOf laterColumn (columnsOf v)) × (o ≡ anyOf overColumn (columnsOf v)))
+    ⊎ ((k : ℕ) × (l : Bool) × (o : Bool) × (valueOf State v ≡ Row k l o) × RowValue k (entriesOf v) v
+    × (l ≡ anyOf unbuiltEntry (entriesOf v)) × (o ≡ anyOf overEntry (entriesOf v)))
 
 pub row-cases : (v : List ℕ) → RowCase v
-unfolding valueOf rowIn columnsOf anyOf
+unfolding valueOf rowIn entriesOf anyOf
 row-cases v = by-end (leb (length v) (skipAt v 0)) refl
   where
     by-end : (x : Bool) → leb (length v) (skipAt v 0) ≡ x
-        → RowOf v (pick x [] (columnsFrom v (openAt v (skipAt v 0)))) (pick x (Row 0 false false) (rowFrom v (openAt v (skipAt v 0))))
-    by-end true e = inr (0, false, false, refl, inl (refl, inl (refl, left-blank v 0 (leb-true (length v) (skipAt v 0) e))), refl, refl)
+        → RowOf v (pick x [] (entriesFrom v (openAt v (skipAt v 0)))) (pick x (Row 0 false false) (rowFrom v (openAt v (skipAt v 0))))
+    by-end true e = inr (0, false, false, refl, inl (refl, inl (refl, skipAt⇒Blanks v 0 (leb-true (length v) (skipAt v 0) e))), refl, refl)
     by-end false e = from-cases v (openAt v (skipAt v 0)) (open-written v)

@@ -14,12 +14,13 @@ use Rattle.lists.specs.Pick.{pick}
 use Rattle.lists.proofs.Cases.{pick-case}
 use Rattle.table.specs.Grammar as grammar
 use Rattle.table.specs.Grammar.{Token, Hex, Digits, Point, Byte, More}
-use Rattle.table.specs.Text.{digitOf, byteOf, skipAt, byteAt, hexOf, unicodeAt, plusAt, joinAt, Series, series, broken, withByte, bytesMore, bytesFrom, bytesAt}
+use Rattle.table.specs.Text.{digitOf, byteOf, skipAt, byteAt, pointDigits, unicodeAt, plusAt, joinAt, ByteSeries, series, broken, withByte, bytesMore, bytesFrom, bytesAt}
 use Rattle.table.specs.Mapping.{pointsMore}
 use Rattle.table.specs.declared.text.Num.{Num}
 use Rattle.table.specs.declared.text.Num.the-variants.{Val, Bad}
 use Rattle.table.proofs.TextLaws.{digit-most}
-use Rattle.table.proofs.Tokens.{strip, first, byte-at, byte-here, past, left-here, skip-here, at-byte, Solid, token-front, token-here, token-past, token-less, token-made, sign-written, digit-inside, digit-value, digit-of, hexFrom, hex-all, hex-value}
+use Rattle.table.proofs.Tokens.{strip, first, drop⇒byteOf-+, drop⇒byteOf, drop⇒skipAt, at-byte, Solid, token-front, Token⇒skipAt, Token⇒past, token-less, drop⇒Token, byteOf⇒Token, digit-inside, digit-value, digitOf⇒Digit, hexFrom, Hex⇒AllDigits, Hex⇒hexFrom}
+use Rattle.lists.proofs.Parts.{drop-+, drop⇒length}
 
 -- what is read behind q, if anything, is a token X
 abbrev TokenOf : (ℕ → List ℕ → List ℕ → Type 0) → List ℕ → ℕ → Num → Type 0
@@ -44,10 +45,10 @@ byte-reads : (s : List ℕ) (p v a b : ℕ) (r : List ℕ) → Hex 0 (a ∷ b �
 unfolding byteAt hexFrom
 byte-reads s p v a b r x h =
     let t : List ℕ = 92 ∷ 120 ∷ a ∷ b ∷ r in
-    let d = hex-all 0 (a ∷ b ∷ []) v x in
-    let e : digitOf a * 16 + digitOf b ≡ v = omega (arith, hex-value 0 (a ∷ b ∷ []) v x) in
-    let i = byte-at s p in
-    rw (byte-here s p t h, i 1 t h, i 2 t h, i 3 t h, lt-ltb (digitOf a) 16 (d .0), lt-ltb (digitOf b) 16 (d .1 .0), e)
+    let d = Hex⇒AllDigits 0 (a ∷ b ∷ []) v x in
+    let e : digitOf a * 16 + digitOf b ≡ v = omega (arith, Hex⇒hexFrom 0 (a ∷ b ∷ []) v x) in
+    let i = drop⇒byteOf-+ s p in
+    rw (drop⇒byteOf s p t h, i 1 t h, i 2 t h, i 3 t h, lt-ltb (digitOf a) 16 (d .0), lt-ltb (digitOf b) 16 (d .1 .0), e)
 
 byte-none : (s : List ℕ) (p : ℕ) → (byteOf s p ≡ 92 → ⊥) → byteAt s p ≡ Bad
 unfolding byteAt
@@ -83,7 +84,7 @@ byte-written s q =
         let e3 = at-byte s (at + 3) (at + 4) b (omega arith) refl (digit-inside b l) in
         let e : drop at s ≡ 92 ∷ 120 ∷ a ∷ b ∷ drop (at + 4) s =
         e0 ∙ ap (λ (r : List ℕ). 92 ∷ r) (e1 ∙ ap (λ (r : List ℕ). 120 ∷ r) (e2 ∙ ap (λ (r : List ℕ). a ∷ r) e3)) in
-        (a, b, (digitOf a, digit-of a k, (digitOf b, digit-of b l, omega arith)), token-made s q (at + 4) (92 ∷ 120 ∷ a ∷ b ∷ []) e)
+        (a, b, (digitOf a, digitOf⇒Digit a k, (digitOf b, digitOf⇒Digit b l, omega arith)), drop⇒Token s q (at + 4) (92 ∷ 120 ∷ a ∷ b ∷ []) e)
 
 pub byte-reader : TokenReader Byte 92 byteAt
 byte-reader =
@@ -102,11 +103,11 @@ unfolding digitOf
 no-close d h e = let k : 16 < 16 = rw e at h in omega arith
 
 hex-reads : (n v at : ℕ) (ds r : List ℕ) (u : ℕ) → Hex v ds u → 1 ≤ n + length ds → n + length ds ≤ 6
-    → hexOf n v at ((ds ++ (62 ∷ [])) ++ r) ≡ Val u (at + length (ds ++ (62 ∷ [])))
-unfolding hexOf
+    → pointDigits n v at ((ds ++ (62 ∷ [])) ++ r) ≡ Val u (at + length (ds ++ (62 ∷ [])))
+unfolding pointDigits
 hex-reads n v at [] r u h one six = rw (ne-eqb n 0 (λ e. omega arith), h)
 hex-reads n v at (d ∷ ds) r u (x, k, h) one six =
-    let a = hex-all v (d ∷ ds) u (x, k, h) in
+    let a = Hex⇒AllDigits v (d ∷ ds) u (x, k, h) in
     let e : at + suc (length (ds ++ (62 ∷ []))) ≡ at + 1 + length (ds ++ (62 ∷ [])) = omega arith in
     let y = ne-eqb (digitOf d) 16 (λ z. omega (arith, a .0)) in
     rw (ne-eqb d 62 (no-close d (a .0)), y, ne-eqb n 6 (λ z. omega arith), digit-value x d k, e)
@@ -118,7 +119,7 @@ unfolding unicodeAt
 point-reads s p u ds r (one, six, x) h =
     let t : List ℕ = 60 ∷ 85 ∷ ((ds ++ (62 ∷ [])) ++ r) in
     let e : p + suc (suc (length (ds ++ (62 ∷ [])))) ≡ p + 2 + length (ds ++ (62 ∷ [])) = omega arith in
-    rw (byte-here s p t h, byte-at s p 1 t h, past s p 2 t h, e) (hex-reads 0 0 (p + 2) ds r u x (omega arith) (omega arith))
+    rw (drop⇒byteOf s p t h, drop⇒byteOf-+ s p 1 t h, drop-+ s p 2 t h, e) (hex-reads 0 0 (p + 2) ds r u x (omega arith) (omega arith))
 
 point-none : (s : List ℕ) (p : ℕ) → (byteOf s p ≡ 60 → ⊥) → unicodeAt s p ≡ Bad
 unfolding unicodeAt
@@ -134,13 +135,13 @@ module _ (s : List ℕ) where
       → HexOf n v at r
   hex-next n v at b bs Bad l d h = tt
   hex-next n v at b bs (Val u e) l d (ds, x, one, six, k) =
-      (b ∷ ds, (digitOf b, digit-of b d, x), omega arith, omega arith, l ∙ ap (λ (r : List ℕ). b ∷ r) (sym (past s at 1 (b ∷ bs) l) ∙ k))
+      (b ∷ ds, (digitOf b, digitOf⇒Digit b d, x), omega arith, omega arith, l ∙ ap (λ (r : List ℕ). b ∷ r) (sym (drop-+ s at 1 (b ∷ bs) l) ∙ k))
 
-  hex-written : (n v at : ℕ) (l : List ℕ) → drop at s ≡ l → n ≤ 6 → HexOf n v at (hexOf n v at l)
-  unfolding hexOf
+  hex-written : (n v at : ℕ) (l : List ℕ) → drop at s ≡ l → n ≤ 6 → HexOf n v at (pointDigits n v at l)
+  unfolding pointDigits
   hex-written n v at [] h le = tt
   hex-written n v at (b ∷ bs) h le =
-      let behind = past s at 1 (b ∷ bs) h in
+      let behind = drop-+ s at 1 (b ∷ bs) h in
       pick-case P (eqb b 62) _ _
       (λ c. pick-case P (eqb n 0) _ _ (λ _. tt)
       (λ z. let nz = eqb-false n 0 z in
@@ -148,7 +149,7 @@ module _ (s : List ℕ) where
       (λ _. pick-case P (eqb (digitOf b) 16) _ _ (λ _. tt)
       (λ d. pick-case P (eqb n 6) _ _ (λ _. tt)
       (λ m. let nm = eqb-false n 6 m in let nd = eqb-false (digitOf b) 16 d in
-      hex-next n v at b bs (hexOf (n + 1) (v * 16 + digitOf b) (at + 1) bs) h (omega (arith, digit-most b))
+      hex-next n v at b bs (pointDigits (n + 1) (v * 16 + digitOf b) (at + 1) bs) h (omega (arith, digit-most b))
       (hex-written (n + 1) (v * 16 + digitOf b) (at + 1) bs behind (omega arith)))))
     where
       P : Num → Type 0
@@ -163,7 +164,7 @@ module _ (s : List ℕ) where
       let e1 = at-byte s (p + 1) (p + 2) 85 (omega arith) j (λ z. omega arith) in (
         ds,
         (omega arith, omega arith, x),
-        token-made s q e (60 ∷ 85 ∷ (ds ++ (62 ∷ []))) (e0 ∙ ap (λ (r : List ℕ). 60 ∷ r) (e1 ∙ ap (λ (r : List ℕ). 85 ∷ r) k)),
+        drop⇒Token s q e (60 ∷ 85 ∷ (ds ++ (62 ∷ []))) (e0 ∙ ap (λ (r : List ℕ). 60 ∷ r) (e1 ∙ ap (λ (r : List ℕ). 85 ∷ r) k)),
       )
 
   point-written : (q : ℕ) → TokenOf Point s q (unicodeAt s (skipAt s q))
@@ -171,7 +172,7 @@ module _ (s : List ℕ) where
   point-written q =
       pick-case P (eqb (byteOf s at) 60) _ _
       (λ i. pick-case P (eqb (byteOf s (at + 1)) 85) _ _
-      (λ j. point-made q (hexOf 0 0 (at + 2) (drop (at + 2) s)) (eqb-true (byteOf s at) 60 i) (eqb-true (byteOf s (at + 1)) 85 j)
+      (λ j. point-made q (pointDigits 0 0 (at + 2) (drop (at + 2) s)) (eqb-true (byteOf s at) 60 i) (eqb-true (byteOf s (at + 1)) 85 j)
       (hex-written 0 0 (at + 2) (drop (at + 2) s) refl (omega arith)))
       (λ _. tt)) (λ _. tt)
     where
@@ -195,10 +196,10 @@ point-reader =
 
 module _ (s : List ℕ) (q : ℕ) where
   plus-front : (t r : List ℕ) → Token (43 ∷ []) t r → drop q s ≡ t → plusAt s q ≡ true
-  plus-front t r k h = rw (byte-here s (skipAt s q) (43 ∷ r) (token-here (43 ∷ []) t r (refl, refl) k s q h))
+  plus-front t r k h = rw (drop⇒byteOf s (skipAt s q) (43 ∷ r) (Token⇒skipAt (43 ∷ []) t r (refl, refl) k s q h))
 
   plus-none : (r : List ℕ) → drop q s ≡ r → (first (strip r) ≡ 43 → ⊥) → plusAt s q ≡ false
-  plus-none r h n = rw (byte-here s (skipAt s q) (strip r) (skip-here s q r h), ne-eqb (first (strip r)) 43 n)
+  plus-none r h n = rw (drop⇒byteOf s (skipAt s q) (strip r) (drop⇒skipAt s q r h), ne-eqb (first (strip r)) 43 n)
 
   join-plus : plusAt s q ≡ true → joinAt s q ≡ skipAt s (skipAt s q + 1)
   unfolding joinAt
@@ -212,43 +213,43 @@ module _ (s : List ℕ) (q : ℕ) where
 
 module _ (X : ℕ → List ℕ → List ℕ → Type 0) where
   -- what is read behind q, if anything, are further tokens X
-  abbrev MoreOf : List ℕ → ℕ → Series → Type 0
+  abbrev MoreOf : List ℕ → ℕ → ByteSeries → Type 0
   MoreOf s q broken = Unit {0}
   MoreOf s q (series c plus e) = More X c plus (drop q s) (drop e s)
 
   -- or is a series of them
-  abbrev pub SeriesOf : List ℕ → ℕ → Series → Type 0
+  abbrev pub SeriesOf : List ℕ → ℕ → ByteSeries → Type 0
   SeriesOf s q broken = Unit {0}
   SeriesOf s q (series c plus e) = grammar.Series X c plus (drop q s) (drop e s)
 
   -- one token, behind a `+` or not
-  abbrev Step : Bool → ℕ → List ℕ → List ℕ → Type 0
-  Step false v t m = X v t m
-  Step true v t m = (k : List ℕ) × Token (43 ∷ []) t k × X v k m
+  abbrev OneMore : Bool → ℕ → List ℕ → List ℕ → Type 0
+  OneMore false v t m = X v t m
+  OneMore true v t m = (k : List ℕ) × Token (43 ∷ []) t k × X v k m
 
-  with-more : (s : List ℕ) (q v e : ℕ) (p : Bool) (r : Series) → Step p v (drop q s) (drop e s) → MoreOf s e r → MoreOf s q (withByte v p r)
+  with-more : (s : List ℕ) (q v e : ℕ) (p : Bool) (r : ByteSeries) → OneMore p v (drop q s) (drop e s) → MoreOf s e r → MoreOf s q (withByte v p r)
   with-more s q v e true broken b h = tt
   with-more s q v e false broken b h = tt
   with-more s q v e true (series c m z) (k, plus, b) h = inr (k, drop e s, m, refl, plus, b, h)
   with-more s q v e false (series c m z) b h = inl (drop e s, b, h)
 
-  with-series : (s : List ℕ) (q v e : ℕ) (r : Series) → X v (drop q s) (drop e s) → MoreOf s e r → SeriesOf s q (withByte v false r)
+  with-series : (s : List ℕ) (q v e : ℕ) (r : ByteSeries) → X v (drop q s) (drop e s) → MoreOf s e r → SeriesOf s q (withByte v false r)
   with-series s q v e broken b h = tt
   with-series s q v e (series c m z) b h = (drop e s, b, h)
 
 module _ (at : List ℕ → ℕ → Num) where
   -- as `bytesMore` and `bytesAt`, for the tokens that this reads
-  unfoldable pub moreAt : ℕ → List ℕ → ℕ → Num → Series
+  unfoldable pub moreAt : ℕ → List ℕ → ℕ → Num → ByteSeries
   moreAt zero s q Bad = pick (plusAt s q) broken (series [] false q)
   moreAt zero s q (Val v e) = broken
   moreAt (suc f) s q Bad = pick (plusAt s q) broken (series [] false q)
   moreAt (suc f) s q (Val v e) = withByte v (plusAt s q) (moreAt f s e (at s (joinAt s e)))
 
-  abbrev pub seriesFrom : List ℕ → Num → Series
+  abbrev pub seriesFrom : List ℕ → Num → ByteSeries
   seriesFrom s Bad = broken
   seriesFrom s (Val v e) = withByte v false (moreAt (length s) s e (at s (joinAt s e)))
 
-  abbrev pub seriesAt : List ℕ → ℕ → Series
+  abbrev pub seriesAt : List ℕ → ℕ → ByteSeries
   seriesAt s q = seriesFrom s (at s (skipAt s q))
 
   more-none : (f : ℕ) (s : List ℕ) (q : ℕ) → plusAt s q ≡ false → moreAt f s q Bad ≡ series [] false q
@@ -267,7 +268,7 @@ module _ {X : ℕ → List ℕ → List ℕ → Type 0} {x : ℕ} {at : List ℕ
   token-read s q v t r b h =
       let k = a .read v t r b in
       let w : List ℕ = x ∷ k .0 in
-      (skipAt s q + length w, k .2 s (skipAt s q) (token-here w t r (a .solid) (k .1) s q h), token-past w t r (a .solid) (k .1) s q h)
+      (skipAt s q + length w, k .2 s (skipAt s q) (Token⇒skipAt w t r (a .solid) (k .1) s q h), Token⇒past w t r (a .solid) (k .1) s q h)
 
   token-first : (v : ℕ) (t r : List ℕ) → X v t r → first (strip t) ≡ x
   token-first v t r b = let k = a .read v t r b in ap first (token-front (x ∷ k .0) t r (a .solid) (k .1))
@@ -292,7 +293,7 @@ module _ {X : ℕ → List ℕ → List ℕ → Type 0} {x : ℕ} {at : List ℕ
   more-read f s q [] plus t r (y, b) h fuel n m =
       let k : drop q s ≡ r = h ∙ b in
       let p = plus-none s q r k m in
-      let none = a .none s (skipAt s q) (λ e. n (sym (byte-here s (skipAt s q) (strip r) (skip-here s q r k)) ∙ e)) in
+      let none = a .none s (skipAt s q) (λ e. n (sym (drop⇒byteOf s (skipAt s q) (strip r) (drop⇒skipAt s q r k)) ∙ e)) in
       (q, rw (join-none s q p, none, y) (more-none at f s q p), k)
   more-read zero s q (v ∷ c) plus t r b h fuel n m = absurd (omega arith)
   more-read (suc f) s q (v ∷ c) plus t r (inl (i, b, bs)) h fuel n m =
@@ -302,7 +303,7 @@ module _ {X : ℕ → List ℕ → List ℕ → Type 0} {x : ℕ} {at : List ℕ
       (g .0, rw (join-none s q p, k .1) (more-step at f s q v (k .0) false c plus (g .0) p (g .1)), g .2)
   more-read (suc f) s q (v ∷ c) plus t r (inr (j, i, later, y, z, b, bs)) h fuel n m =
       let p = plus-front s q t j z h in
-      let k = token-read s (skipAt s q + 1) v j i b (token-past (43 ∷ []) t j (refl, refl) z s q h) in
+      let k = token-read s (skipAt s q + 1) v j i b (Token⇒past (43 ∷ []) t j (refl, refl) z s q h) in
       let g = more-read f s (k .0) c later i r bs (k .2) (omega arith) n m in
       (g .0, rw (join-plus s q p, k .1, y) (more-step at f s q v (k .0) true c later (g .0) p (g .1)), g .2)
 
@@ -311,16 +312,16 @@ module _ {X : ℕ → List ℕ → List ℕ → Type 0} {x : ℕ} {at : List ℕ
   series-read s q [] plus t r b h n m = absurd b
   series-read s q (v ∷ c) plus t r (i, b, bs) h n m =
       let k = token-read s q v t i b h in
-      let f : length c ≤ length s = omega (arith, more-long c plus i r bs, left-here s (k .0) i (k .2)) in
+      let f : length c ≤ length s = omega (arith, more-long c plus i r bs, drop⇒length s (k .0) i (k .2)) in
       let g = more-read (length s) s (k .0) c plus i r bs (k .2) f n m in
       (g .0, rw (k .1, g .1), g .2)
 
   -- and what is read the grammar has
-  step-written : (s : List ℕ) (q v e : ℕ) (p : Bool) → plusAt s q ≡ p → at s (joinAt s q) ≡ Val v e → Step X p v (drop q s) (drop e s)
+  step-written : (s : List ℕ) (q v e : ℕ) (p : Bool) → plusAt s q ≡ p → at s (joinAt s q) ≡ Val v e → OneMore X p v (drop q s) (drop e s)
   step-written s q v e true i h =
       let j : ℕ = skipAt s q + 1 in
       let k : at s (skipAt s j) ≡ Val v e = sym (ap (at s) (join-plus s q i)) ∙ h in
-      (drop j s, sign-written s q 43 i (λ z. omega arith), subst (TokenOf X s j) k (a .written s j))
+      (drop j s, byteOf⇒Token s q 43 i (λ z. omega arith), subst (TokenOf X s j) k (a .written s j))
   step-written s q v e false i h =
       let k : at s (skipAt s q) ≡ Val v e = sym (ap (at s) (join-none s q i)) ∙ h in
       subst (TokenOf X s q) k (a .written s q)
@@ -365,7 +366,7 @@ pub bytes-read : (s : List ℕ) (q : ℕ) (c : List ℕ) (plus : Bool) (t r : Li
 bytes-read s q c plus t r b h n m = let g = series-read byte-reader s q c plus t r b h n m in (g .0, bytes-series s q ∙ g .1, g .2)
 
 -- what is read behind q, if anything, are one or more bytes
-abbrev pub RunOf : List ℕ → ℕ → Series → Type 0
+abbrev pub RunOf : List ℕ → ℕ → ByteSeries → Type 0
 RunOf s q r = SeriesOf Byte s q r
 
 pub bytes-written : (s : List ℕ) (q : ℕ) → RunOf s q (bytesAt s q)
@@ -378,7 +379,7 @@ abbrev pub several : ℕ → List ℕ → ℕ
 several n [] = n
 several n (u ∷ us) = 1
 
-abbrev pub counted : ℕ → Series → Num
+abbrev pub counted : ℕ → ByteSeries → Num
 counted n broken = Bad
 counted n (series us joined e) = Val (several n us) e
 
@@ -386,7 +387,7 @@ counted-none : (p : Bool) (n q : ℕ) → pick p Bad (Val n q) ≡ counted n (pi
 counted-none true n q = refl
 counted-none false n q = refl
 
-counted-more : (n v : ℕ) (p : Bool) (r : Series) → counted 1 r ≡ counted n (withByte v p r)
+counted-more : (n v : ℕ) (p : Bool) (r : ByteSeries) → counted 1 r ≡ counted n (withByte v p r)
 counted-more n v p broken = refl
 counted-more n v p (series [] joined e) = refl
 counted-more n v p (series (u ∷ us) joined e) = refl

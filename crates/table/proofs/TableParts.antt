@@ -12,7 +12,7 @@ use Rattle.table.specs.Slices.{Slices}
 use Rattle.table.specs.Memory.{sub1In, linesIn, tableIn}
 use Rattle.table.specs.Valid.{valid}
 use Rattle.table.specs.declared.valid.Record.{Record}
-use Rattle.table.proofs.ValidLaws.{tested, record-kept}
+use Rattle.table.proofs.TestParts.{tested, recordOk⇒RecordKept}
 
 module _ (rec : Record) (m : Slices) where
   pub table-lines : tableIn rec m .lines ≡ linesIn rec (m .codes) (m .infos)
@@ -28,7 +28,7 @@ module _ (rec : Record) (m : Slices) where
   table-subchar1 = refl
 
 pub subchar1-byte : (lim : Limits) (rec : Record) (m : Slices) → valid lim rec m ≡ true → rec .subchar1 ≤ 256
-subchar1-byte lim rec m ok = record-kept lim rec (tested lim rec m ok .rec-ok) .sub1-byte
+subchar1-byte lim rec m ok = recordOk⇒RecordKept lim rec (tested lim rec m ok .rec-ok) .sub1-byte
 
 -- subchar1 by the record's number: none, or a byte
 pub subchar1-none : (n : ℕ) → n ≡ 0 → sub1In n ≡ none

@@ -4,23 +4,26 @@ use mathlib.Core.Path.{_≡_, refl, _∙_}
 use mathlib.Core.List.{List}
 use native.Mathlib.Omega.{arith}
 use Rattle.table.specs.Limits.{limits}
-use Rattle.table.specs.States.{endKind, allBelow, within}
+use Rattle.table.specs.States.{endKind, within}
+use Rattle.lists.specs.Tests.{allBelow, allOf, anyOf}
 use Rattle.table.specs.Codes.{packed, unpacked}
-use Rattle.table.specs.Meaning.{flat, stepsOn, same}
-use Rattle.table.specs.Rules.{allOf, anyOf, t9}
-use Rattle.table.specs.Text.{crBefore, onto, linesOf, digitOf, skipOf, begins, endsAt, flipped, foreign, contentEnd, quoteEnd, numberAt, byteAt, hexOf, unicodeAt, joinAt, bytesMore, bytesAt, isCharmap}
-use Rattle.table.specs.Row.{toAt, nextAt, letterAt, endAt, itemSep, itemEnd, itemNext, itemTo, itemFrom, itemAt, columnsGo, wellGo, columnsAt, wellAt, laterColumn, overColumn, meaning, spread, painted, commaAt, openAt, columnsFrom, columnsOf, rowOf}
-use Rattle.table.specs.Header.{keyByte, keyEnd, keyOf, quotedFrom, quotedOf, nameIn, className, classIn, digitIn, minIn, maxIn, subIn, sub1Value, rowFrom, rowIn, valueOf, isRow, keyLine, keyedLine, lineAt, lineOf}
-use Rattle.table.specs.Mapping.{pointsMore, indicatorAt, indicatorForm, bytesForm, pointsForm, mappingForm, isEnd, formAt, mappedOf, lastAt, lastOf}
-use Rattle.table.specs.Numbers.{n11, n12, n13, rowLater, n14, rowOver, n15, rowsAt, n16, n20, n21, n22, n23, n24, n25, n26, lowest, keyConditions, charmapConditions, mappingConditions}
-use Rattle.table.specs.Load.{Outcome, keep, keepRow, tableOf, accepted, outcomeAt, loadGo, loadOf}
+use Rattle.table.specs.Meaning.{flat, stepsOn}
+use Rattle.lists.specs.Strings.{same, onto, begins}
+use Rattle.table.specs.Rules.{t9}
+use Rattle.table.specs.Text.{crBefore, linesOf, digitOf, skipOf, endsAt, flipped, foreign, contentEnd, quoteEnd, numberAt, byteAt, pointDigits, unicodeAt, joinAt, bytesMore, bytesAt, isCharmap}
+use Rattle.table.specs.Row.{toAt, nextAt, letterAt, endAt, entrySep, entryEnd, entryNext, entryTo, entryFrom, entryAt, entriesGo, wellGo, entriesAt, wellAt, unbuiltEntry, overEntry, meaning, overwritten, commaAt, openAt, entriesFrom, entriesOf, rowOf}
+use Rattle.lists.specs.Place.{fillRange}
+use Rattle.table.specs.Header.{keyByte, keyEnd, keyOf, quotedFrom, quotedOf, nameIn, className, classIn, digitIn, minIn, maxIn, subIn, sub1Value, rowFrom, rowIn, valueOf, isRow, keyLine, keyedLine, headerLineAt, headerLineOf}
+use Rattle.table.specs.Mapping.{pointsMore, indicatorAt, indicatorForm, bytesForm, pointsForm, mappingForm, isEnd, bodyLineAt, bodyLineOf, afterEndAt, afterEndOf}
+use Rattle.table.specs.Numbers.{n11, n12, n13, rowUnbuilt, n14, rowOver, n15, rowsAt, n16, n20, n21, n22, n23, n24, n25, n26, lowest, keyConditions, charmapConditions, mappingConditions}
+use Rattle.table.specs.Load.{Outcome, keepValue, keepRow, tableOf, accepted, outcomeAt, loadGo, loadOf}
 use Rattle.table.specs.Grammar.{TableText}
 use Rattle.table.specs.TableK.{kText, tableK, freeText}
 use Rattle.table.proofs.TextRead.{accepted-exactly}
 
 -- the reader, opened for computing
 unfoldable outcome : List ℕ → Outcome
-unfolding stepsOn endKind allBelow within packed unpacked flat same allOf anyOf t9 crBefore onto linesOf digitOf skipOf begins endsAt flipped foreign contentEnd quoteEnd numberAt byteAt hexOf unicodeAt joinAt bytesMore bytesAt isCharmap toAt nextAt letterAt endAt itemSep itemEnd itemNext itemTo itemFrom itemAt columnsGo wellGo columnsAt wellAt laterColumn overColumn meaning spread painted commaAt openAt columnsFrom columnsOf rowOf keyByte keyEnd keyOf quotedFrom quotedOf nameIn className classIn digitIn minIn maxIn subIn sub1Value rowFrom rowIn valueOf keyLine keyedLine lineAt lineOf pointsMore indicatorAt indicatorForm bytesForm pointsForm mappingForm isEnd formAt mappedOf lastAt lastOf n11 n12 n13 rowLater n14 rowOver n15 rowsAt n16 n20 n21 n22 n23 n24 n25 n26 lowest keyConditions charmapConditions mappingConditions keep keepRow isRow tableOf outcomeAt loadGo loadOf
+unfolding stepsOn endKind allBelow within packed unpacked flat same allOf anyOf t9 crBefore onto linesOf digitOf skipOf begins endsAt flipped foreign contentEnd quoteEnd numberAt byteAt pointDigits unicodeAt joinAt bytesMore bytesAt isCharmap toAt nextAt letterAt endAt entrySep entryEnd entryNext entryTo entryFrom entryAt entriesGo wellGo entriesAt wellAt unbuiltEntry overEntry meaning fillRange overwritten commaAt openAt entriesFrom entriesOf rowOf keyByte keyEnd keyOf quotedFrom quotedOf nameIn className classIn digitIn minIn maxIn subIn sub1Value rowFrom rowIn valueOf keyLine keyedLine headerLineAt headerLineOf pointsMore indicatorAt indicatorForm bytesForm pointsForm mappingForm isEnd bodyLineAt bodyLineOf afterEndAt afterEndOf n11 n12 n13 rowUnbuilt n14 rowOver n15 rowsAt n16 n20 n21 n22 n23 n24 n25 n26 lowest keyConditions charmapConditions mappingConditions keepValue keepRow isRow tableOf outcomeAt loadGo loadOf
 outcome text = loadOf limits text
 
 k-outcome : outcome kText ≡ accepted tableK

@@ -9,17 +9,19 @@ use native.Mathlib.Nat.{add-zero, mul-le-mul-right, pow-suc, pow-le-pow-right, n
 use borrow.Author.Tests.{ltb-true, leb-true, leb-false, eqb-false}
 use lib.Dec.{ltb, leb, eqb, lit<}
 use lib.ListN.{length, getD, drop, List·getD-eq-default}
-use Rattle.lists.proofs.Laws.{tests, drop-end, clash, not-yes}
+use Rattle.lists.proofs.Laws.{tests, drop-past, clash, ¬true⇒false}
 use Rattle.lists.proofs.Cases.{pick-case}
-use Rattle.lists.proofs.Choice.{pick-self}
+use Rattle.lists.proofs.Choice.{pick-true-false}
 use Rattle.lists.specs.Pick.{pick}
 use Rattle.table.specs.Codes.{packed, AllByte}
-use Rattle.table.specs.Text.{digitOf, byteOf, endsAt, byteAt, hexOf, unicodeAt, plusAt, joinAt, Series, series, broken, withByte, bytesMore, bytesFrom, runOf, Keeps}
-use Rattle.table.specs.declared.text.Run.{Run}
-use Rattle.table.specs.declared.text.Run.the-variants.{Bytes, Wrong}
+use Rattle.table.specs.Text.{digitOf, byteOf, endsAt, byteAt, pointDigits, unicodeAt, plusAt, joinAt, ByteSeries, series, broken, withByte, bytesMore, bytesFrom}
+use Rattle.table.specs.declared.text.ByteRun.{ByteRun}
+use Rattle.table.specs.declared.text.ByteRun.the-variants.{Bytes, Wrong}
 use Rattle.table.specs.declared.text.Num.{Num}
 use Rattle.table.specs.declared.text.Num.the-variants.{Val, Bad}
 use Rattle.table.proofs.Packing.{packed-fits}
+use Rattle.table.specs.loops.Coded.{byteRunOf}
+use Rattle.table.specs.loops.Ranges.{NumAtMost}
 
 -- the byte at a position of a list, or 256 past its end
 pub getD-in : (s : List ℕ) (i : ℕ) → i < length s → getD s i 256 ≡ getD s i 0
@@ -34,7 +36,7 @@ pub digit-none : digitOf 256 ≡ 16
 unfolding digitOf
 digit-none = refl
 
-pub ruleset scan = (tests, getD-in, getD-out, digit-none, drop-end)
+pub ruleset scan = (tests, getD-in, getD-out, digit-none, drop-past)
 
 -- a number of n hexadecimal digits, with one more digit
 pub hex-more : (n v d : ℕ) → v < 16 ^ n → d < 16 → v * 16 + d < 16 ^ (n + 1)
@@ -46,17 +48,17 @@ hex-small n v hn hv = omega (arith, pow-le-pow-right {n = 16} (lit< tt) hn)
 -- a place where the line does not end stands in it
 pub ends-inside : (s : List ℕ) (at : ℕ) → endsAt s at ≡ false → at < length s
 unfolding endsAt
-ends-inside s at e = leb-false (length s) at (not-yes (leb (length s) at) (λ h. clash (rw h) e))
+ends-inside s at e = leb-false (length s) at (¬true⇒false (leb (length s) at) (λ h. clash (rw h) e))
 
 -- a bound on a value may be wider
-pub keeps-more : (j k : ℕ) → j ≤ k → (r : Num) (at n : ℕ) → Keeps j r at n → Keeps k r at n
-unfolding Keeps
+pub keeps-more : (j k : ℕ) → j ≤ k → (r : Num) (at n : ℕ) → NumAtMost j r at n → NumAtMost k r at n
+unfolding NumAtMost
 keeps-more j k le Bad at n h = tt
 keeps-more j k le (Val v q) at n h = (h .0, h .1, omega arith)
 
 -- and its place earlier
-pub keeps-past : (k : ℕ) (r : Num) (at q n : ℕ) → q ≤ at → Keeps k r at n → Keeps k r q n
-unfolding Keeps
+pub keeps-past : (k : ℕ) (r : Num) (at q n : ℕ) → q ≤ at → NumAtMost k r at n → NumAtMost k r q n
+unfolding NumAtMost
 keeps-past k Bad at q n le h = tt
 keeps-past k (Val v e) at q n le h = (omega arith, h .1, h .2)
 
@@ -98,14 +100,14 @@ forth-past k at q (Val v e) le h = (h .0, omega arith)
 under : (x k : ℕ) → x ≤ k → eqb x k ≡ false → x < k
 under x k h e = let n = eqb-false x k e in omega arith
 
-hex-forth : (n v at : ℕ) (l : List ℕ) → n ≤ 6 → v < 16 ^ n → Forth 16777216 (at + 1) (hexOf n v at l)
-unfolding hexOf
+hex-forth : (n v at : ℕ) (l : List ℕ) → n ≤ 6 → v < 16 ^ n → Forth 16777216 (at + 1) (pointDigits n v at l)
+unfolding pointDigits
 hex-forth n v at [] le lt = tt
 hex-forth n v at (b ∷ bs) le lt =
     pick-case P (eqb b 62) _ _ (λ _. pick-case P (eqb n 0) _ _ (λ _. tt) (λ _. (hex-small n v le lt, omega arith)))
     (λ _. pick-case P (eqb (digitOf b) 16) _ _ (λ _. tt)
     (λ d. pick-case P (eqb n 6) _ _ (λ _. tt)
-    (λ m. forth-past 16777216 (at + 1) (at + 1 + 1) (hexOf (n + 1) (v * 16 + digitOf b) (at + 1) bs) (omega arith)
+    (λ m. forth-past 16777216 (at + 1) (at + 1 + 1) (pointDigits (n + 1) (v * 16 + digitOf b) (at + 1) bs) (omega arith)
     (hex-forth (n + 1) (v * 16 + digitOf b) (at + 1) bs (omega (arith, under n 6 le m)) (hex-more n v (digitOf b) lt (under (digitOf b) 16 (digit-most b) d))))))
   where
     P : Num → Type 0
@@ -116,18 +118,18 @@ unfolding unicodeAt
 unicode-forth s at =
     pick-case P (eqb (byteOf s at) 60) _ _
     (λ _. pick-case P (eqb (byteOf s (at + 1)) 85) _ _
-    (λ _. forth-past 16777216 (at + 1) (at + 2 + 1) (hexOf 0 0 (at + 2) (drop (at + 2) s)) (omega arith) (hex-forth 0 0 (at + 2) (drop (at + 2) s) (omega arith) (lit< tt)))
+    (λ _. forth-past 16777216 (at + 1) (at + 2 + 1) (pointDigits 0 0 (at + 2) (drop (at + 2) s)) (omega arith) (hex-forth 0 0 (at + 2) (drop (at + 2) s) (omega arith) (lit< tt)))
     (λ _. tt)) (λ _. tt)
   where
     P : Num → Type 0
     P r = Forth 16777216 (at + 1) r
 
 -- the bytes of a series are bytes
-abbrev pub SeriesByte : Series → Type 0
+abbrev pub SeriesByte : ByteSeries → Type 0
 SeriesByte broken = Unit {0}
 SeriesByte (series l m e) = AllByte l
 
-with-byte : (v : ℕ) (p : Bool) (r : Series) → v < 256 → SeriesByte r → SeriesByte (withByte v p r)
+with-byte : (v : ℕ) (p : Bool) (r : ByteSeries) → v < 256 → SeriesByte r → SeriesByte (withByte v p r)
 unfolding AllByte
 with-byte v p broken h a = tt
 with-byte v p (series l m e) h a = (h, a)
@@ -165,17 +167,17 @@ second-weight [] a = refl
 second-weight (v ∷ l) a = omega (arith, third-weight l (a .1))
 
 -- the first four bytes of any number have a weight
-pub packed-weights : (l : List ℕ) → AllByte l → packed l ≡ weighed 16777216 l
+packed-weights : (l : List ℕ) → AllByte l → packed l ≡ weighed 16777216 l
 unfolding packed weighed AllByte
 packed-weights [] a = refl
 packed-weights (v ∷ l) a = omega (arith, second-weight l (a .1))
 
 -- a run of which c bytes are read, b by their weights; w is the next weight
-unfoldable pub onRun : ℕ → ℕ → ℕ → Bool → Series → Run
+unfoldable pub onRun : ℕ → ℕ → ℕ → Bool → ByteSeries → ByteRun
 onRun b w c joined broken = Wrong
 onRun b w c joined (series l m e) = Bytes (b + weighed w l) (c + length l) (pick joined true m) e
 
-start-run : (v : ℕ) (r : Series) → v < 256 → SeriesByte r → runOf (withByte v false r) ≡ onRun (v * 16777216) 65536 1 false r
+start-run : (v : ℕ) (r : ByteSeries) → v < 256 → SeriesByte r → byteRunOf (withByte v false r) ≡ onRun (v * 16777216) 65536 1 false r
 unfolding onRun weighed AllByte
 start-run v broken h a = refl
 start-run v (series l m e) h a =
@@ -184,10 +186,10 @@ start-run v (series l m e) h a =
     rw (k, n)
 
 pub run-start : (s : List ℕ) (v e : ℕ) → v < 256
-    → runOf (bytesFrom s (Val v e)) ≡ onRun (v * 16777216) 65536 1 false (bytesMore (length s) s e (byteAt s (joinAt s e)))
+    → byteRunOf (bytesFrom s (Val v e)) ≡ onRun (v * 16777216) 65536 1 false (bytesMore (length s) s e (byteAt s (joinAt s e)))
 run-start s v e h = start-run v (bytesMore (length s) s e (byteAt s (joinAt s e))) h (more-bytes (length s) s e _ (byteAt s (joinAt s e)) (byte-forth s (joinAt s e)))
 
-with-run : (b w c v : ℕ) (j p : Bool) (r : Series) → onRun b w c j (withByte v p r) ≡ onRun (b + v * w) (w / 256) (c + 1) (j || p) r
+with-run : (b w c v : ℕ) (j p : Bool) (r : ByteSeries) → onRun b w c j (withByte v p r) ≡ onRun (b + v * w) (w / 256) (c + 1) (j || p) r
 unfolding onRun weighed
 with-run b w c v j p broken = refl
 with-run b w c v j p (series l m e) =
@@ -213,8 +215,8 @@ run-wrong (suc f) b w c j s q h = rw h
 
 pub run-done : (f b w c : ℕ) (j : Bool) (s : List ℕ) (q : ℕ) → plusAt s q ≡ false → onRun b w c j (bytesMore f s q Bad) ≡ Bytes b c j q
 unfolding bytesMore onRun weighed
-run-done zero b w c j s q h = rw (h, add-zero b, add-zero c, pick-self j)
-run-done (suc f) b w c j s q h = rw (h, add-zero b, add-zero c, pick-self j)
+run-done zero b w c j s q h = rw (h, add-zero b, add-zero c, pick-true-false j)
+run-done (suc f) b w c j s q h = rw (h, add-zero b, add-zero c, pick-true-false j)
 
 pub run-fuel : (n c : ℕ) → c ≤ n → n + 1 - c ≡ suc (n + 1 - (c + 1))
 run-fuel n c h = omega arith

@@ -12,23 +12,22 @@ use lib.Dec.{leb}
 use borrow.Author.Tests.{leb-true}
 use Rattle.lists.specs.Pick.{pick}
 use Rattle.lists.specs.Order.{All}
-use Rattle.lists.proofs.Laws.{both-right}
+use Rattle.lists.proofs.Laws.{and-right}
 use Rattle.table.specs.Limits.{Limits}
 use Rattle.table.specs.Cells.{Cell}
 use Rattle.table.specs.Meaning.{Line, Table}
 use Rattle.table.specs.Rules.{Keeps}
 use Rattle.table.specs.Text.{linesOf}
 use Rattle.table.specs.Row.{rowOf}
-use Rattle.table.specs.Header.{keyOf, valueOf, lineOf}
-use Rattle.table.specs.Mapping.{Form, noForm, reserved, blank, ending, mapping, mappedOf, lastOf}
+use Rattle.table.specs.Header.{keyOf, valueOf, headerLineOf}
+use Rattle.table.specs.Mapping.{BodyLine, noForm, reserved, blank, ending, mapping, bodyLineOf, afterEndOf}
 use Rattle.table.specs.Numbers.{inForm, n13, rowsAt, keyConditions, charmapConditions, mappingConditions}
-use Rattle.table.specs.Load.{Reading, went, stop, judged, reading, keep, keepRow, lineAs, headerAsks, mappingAsks, lastAsks, judgedBy, stepOf, tableOf, accepted, outcomeAt, loadGo, start, loadOf, readOf}
+use Rattle.table.specs.Load.{Reading, goesOn, stop, judged, reading, keepValue, keepRow, lineAs, headerAsks, mappingAsks, lastAsks, judgedBy, lineStep, tableOf, accepted, outcomeAt, loadGo, start, loadOf, loadInForm}
 use Rattle.table.specs.Grammar.{Lines, BlankLine, CharmapLine, EndLine, MappingLine, Pair, KeyLine, valuesOf, RowsAre, HeaderSays, Listed, TableText}
-use Rattle.table.specs.declared.header.Key.{Key}
-use Rattle.table.specs.declared.header.Value.{Value}
+use Rattle.table.specs.declared.value.Key.{Key}
+use Rattle.table.specs.declared.value.Value.{Value}
 use Rattle.table.specs.Keys.{Keys, noKeys}
-use Rattle.table.specs.declared.header.Line.{Line as HeaderLine}
-use Rattle.table.specs.declared.header.Line.the-variants as header
+use Rattle.table.specs.declared.header.HeaderLine.the-variants as header
 use Rattle.table.specs.declared.load.Refusal.{Refusal}
 use Rattle.table.specs.declared.load.Refusal.the-variants as refusal
 use Rattle.table.specs.declared.load.Verdict.{Verdict}
@@ -37,13 +36,14 @@ use Rattle.table.specs.declared.load.Phase.the-variants.{Header, Mapping
 use Rattle.table.proofs.LowestLaws.{lowest-fine, none-in-form}
 use Rattle.table.proofs.Judged.{tableWith}
 use Rattle.table.proofs.InGrammar.{key-form}
-use Rattle.table.proofs.Accepted.{refused-accepted, accepted-same, stop-outcome, accepted-in-grammar, accepted-keeps-rules, kept-rules-accepted}
+use Rattle.table.proofs.Accepted.{refused-accepted, accepted-injective, stop-outcome, accepted-in-grammar, accepted-keeps-rules, kept-rules-accepted}
 use Rattle.table.proofs.LinesRead.{lines-reads, lines-written}
 use Rattle.table.proofs.HeaderRead.{LineMeans, line-written, key-line-reads, blank-line-reads, charmap-line-reads}
 use Rattle.table.proofs.MappingRead.{mapping-line-reads}
 use Rattle.table.proofs.FormsRead.{FormMeans, form-written, blank-body, end-body, LastMeans, last-written, blank-last}
-use Rattle.table.proofs.KeysHeld.{Slot, Held, KeyMeans, key-means, key-passes}
+use Rattle.table.proofs.KeysHeld.{Slot, HeaderKept, KeyMeans, key-means, key-passes}
 use Rattle.table.proofs.HeaderText.{Ordered, in-order, header-said, Asked, key-asked, nothing-absent, says-one}
+use Rattle.table.specs.declared.header.HeaderLine.{HeaderLine}
 
 -- ## What is read is a text of the grammar
 
@@ -53,12 +53,12 @@ stopped lim k ls x t e = absurd (refused-accepted x k t (sym (stop-outcome inFor
 
 -- behind END CHARMAP
 last-go : (lim : Limits) (t : Table) (ls : List (List ℕ)) (k : ℕ) (h : Keys) (rows : List (List Cell)) (ms : List Line)
-    → loadGo inForm lim k ls (went (reading Ended h rows ms)) ≡ accepted t → All BlankLine ls × (t ≡ tableWith h rows ms)
+    → loadGo inForm lim k ls (goesOn (reading Ended h rows ms)) ≡ accepted t → All BlankLine ls × (t ≡ tableWith h rows ms)
 unfolding loadGo inForm outcomeAt tableOf
-last-go lim t [] k h rows ms e = (tt, sym (accepted-same _ t e))
-last-go lim t (l ∷ ls) k h rows ms e = by-form (lastOf l) (last-written l) (last-go lim t ls (k + 1) h rows ms) e
+last-go lim t [] k h rows ms e = (tt, sym (accepted-injective _ t e))
+last-go lim t (l ∷ ls) k h rows ms e = by-form (afterEndOf l) (last-written l) (last-go lim t ls (k + 1) h rows ms) e
   where
-    by-form : (f : Form) → LastMeans l f → (loadGo inForm lim (k + 1) ls (went (reading Ended h rows ms)) ≡ accepted t → All BlankLine ls × (t ≡ tableWith h rows ms))
+    by-form : (f : BodyLine) → LastMeans l f → (loadGo inForm lim (k + 1) ls (goesOn (reading Ended h rows ms)) ≡ accepted t → All BlankLine ls × (t ≡ tableWith h rows ms))
         → loadGo inForm lim (k + 1) ls (judgedBy inForm (lastAsks h rows ms f)) ≡ accepted t → All BlankLine (l ∷ ls) × (t ≡ tableWith h rows ms)
     by-form noForm m ih x = stopped lim (k + 1) ls _ t x
     by-form reserved m ih x = stopped lim (k + 1) ls _ t x
@@ -72,7 +72,7 @@ unfolding inForm mappingConditions
 mapping-fine lim h rows ms l = refl
 
 mapping-goes : (lim : Limits) (h : Keys) (rows : List (List Cell)) (ms : List Line) (u : ℕ) (c : List ℕ) (d : ℕ)
-    → judgedBy inForm (mappingAsks lim h rows ms (mapping u c d)) ≡ went (reading Mappings h rows (lineAs u c d ∷ ms))
+    → judgedBy inForm (mappingAsks lim h rows ms (mapping u c d)) ≡ goesOn (reading Mappings h rows (lineAs u c d ∷ ms))
 mapping-goes lim h rows ms u c d = rw (mapping-fine lim h rows ms (lineAs u c d))
 
 -- END CHARMAP and blank lines
@@ -86,15 +86,15 @@ BodyRest ls h rows ms t =
     × (ls ≡ body ++ tail) × Listed MappingLine news body × Ending tail × (t ≡ tableWith h rows (reverseAux news ms))
 
 body-go : (lim : Limits) (t : Table) (ls : List (List ℕ)) (k : ℕ) (h : Keys) (rows : List (List Cell)) (ms : List Line)
-    → loadGo inForm lim k ls (went (reading Mappings h rows ms)) ≡ accepted t → BodyRest ls h rows ms t
+    → loadGo inForm lim k ls (goesOn (reading Mappings h rows ms)) ≡ accepted t → BodyRest ls h rows ms t
 unfolding loadGo inForm outcomeAt
 body-go lim t [] k h rows ms e = absurd (refused-accepted _ _ t e)
-body-go lim t (l ∷ ls) k h rows ms e = by-form (mappedOf l) (form-written l) (λ m. body-go lim t ls (k + 1) h rows m) e
+body-go lim t (l ∷ ls) k h rows ms e = by-form (bodyLineOf l) (form-written l) (λ m. body-go lim t ls (k + 1) h rows m) e
   where
     longer : (x y : List (List ℕ)) → ls ≡ x ++ y → l ∷ ls ≡ l ∷ (x ++ y)
     longer x y are = ap (λ (z : List (List ℕ)). l ∷ z) are
 
-    by-form : (f : Form) → FormMeans l f → ((m : List Line) → loadGo inForm lim (k + 1) ls (went (reading Mappings h rows m)) ≡ accepted t → BodyRest ls h rows m t)
+    by-form : (f : BodyLine) → FormMeans l f → ((m : List Line) → loadGo inForm lim (k + 1) ls (goesOn (reading Mappings h rows m)) ≡ accepted t → BodyRest ls h rows m t)
         → loadGo inForm lim (k + 1) ls (judgedBy inForm (mappingAsks lim h rows ms f)) ≡ accepted t → BodyRest (l ∷ ls) h rows ms t
     by-form noForm m ih x = stopped lim (k + 1) ls _ t x
     by-form reserved m ih x = stopped lim (k + 1) ls _ t x
@@ -126,7 +126,7 @@ charmap-fine h rows e = by-absent (n13 h (length rows)) refl e
     by-absent false n f = n
     by-absent true n f = absurd (let z : _≡_ {A = ℕ} 0 1 = cc in omega arith)
 
-charmap-before : (l : List ℕ) (ls : List (List ℕ)) (ps : List Pair) (t : Table) (h : Keys) (rows : List (List Cell)) → Held h rows ps → n13 h (length rows) ≡ false → CharmapLine l
+charmap-before : (l : List ℕ) (ls : List (List ℕ)) (ps : List Pair) (t : Table) (h : Keys) (rows : List (List Cell)) → HeaderKept h rows ps → n13 h (length rows) ≡ false → CharmapLine l
     → BodyRest ls h (rowsAt h rows) [] t → HeaderRest (l ∷ ls) ps t
 charmap-before l ls ps t h rows held n c (body, tail, news, are, each, end, table) =
     let back : reverse (t .lines) ≡ news = ap (λ (x : Table). reverse (x .lines)) table ∙ reverse-reverse news in
@@ -141,28 +141,28 @@ charmap-before l ls ps t h rows held n c (body, tail, news, are, each, end, tabl
     )
 
 -- a header line of the grammar gives its key one value more
-known-held : (lim : Limits) (h : Keys) (rows : List (List Cell)) (ps : List Pair) (k : Key) (v : Value) (w : List ℕ) (p : Pair) → Held h rows ps
-    → inForm (keyConditions lim h (length rows) k v) ≡ Fine → k ≡ keyOf (p .key) → v ≡ valueOf k (p .value) → w ≡ p .value → Held (keep h v) (keepRow v w rows) (p ∷ ps)
+known-held : (lim : Limits) (h : Keys) (rows : List (List Cell)) (ps : List Pair) (k : Key) (v : Value) (w : List ℕ) (p : Pair) → HeaderKept h rows ps
+    → inForm (keyConditions lim h (length rows) k v) ≡ Fine → k ≡ keyOf (p .key) → v ≡ valueOf k (p .value) → w ≡ p .value → HeaderKept (keepValue h v) (keepRow v w rows) (p ∷ ps)
 unfolding keyConditions
 known-held lim h rows ps k v w p held fine key value part =
     let f : inForm (keyConditions lim h (length rows) k (valueOf k (p .value))) ≡ Fine = sym (ap (λ (x : Value). inForm (keyConditions lim h (length rows) k x)) value) ∙ fine in
     let n = lowest-fine (keyConditions lim h (length rows) k (valueOf k (p .value))) (sym (key-form lim h (length rows) k (valueOf k (p .value))) ∙ f) in
     let m = subst (KeyMeans (p .key)) (sym key) (key-means (p .key)) in
     let g = key-passes lim h rows ps (p .value) held (p .key) k m (n .0) (n .1 .0) (n .1 .1 .0) (n .1 .1 .1 .0) in
-    subst (λ (x : Value). Held (keep h x) (keepRow x w rows) (p ∷ ps)) (sym value)
-    (subst (λ (x : List ℕ). Held (keep h (valueOf k (p .value))) (keepRow (valueOf k (p .value)) x rows) (p ∷ ps)) (sym part) g)
+    subst (λ (x : Value). HeaderKept (keepValue h x) (keepRow x w rows) (p ∷ ps)) (sym value)
+    (subst (λ (x : List ℕ). HeaderKept (keepValue h (valueOf k (p .value))) (keepRow (valueOf k (p .value)) x rows) (p ∷ ps)) (sym part) g)
 
-header-go : (lim : Limits) (t : Table) (ls : List (List ℕ)) (k : ℕ) (h : Keys) (rows : List (List Cell)) (ps : List Pair) → Held h rows ps
-    → loadGo inForm lim k ls (went (reading Header h rows [])) ≡ accepted t → HeaderRest ls ps t
+header-go : (lim : Limits) (t : Table) (ls : List (List ℕ)) (k : ℕ) (h : Keys) (rows : List (List Cell)) (ps : List Pair) → HeaderKept h rows ps
+    → loadGo inForm lim k ls (goesOn (reading Header h rows [])) ≡ accepted t → HeaderRest ls ps t
 unfolding loadGo inForm outcomeAt
 header-go lim t [] k h rows ps held e = absurd (refused-accepted _ _ t e)
-header-go lim t (l ∷ ls) k h rows ps held e = by-line (lineOf l) (line-written l) (header-go lim t ls (k + 1)) e
+header-go lim t (l ∷ ls) k h rows ps held e = by-line (headerLineOf l) (line-written l) (header-go lim t ls (k + 1)) e
   where
     longer : (x y : List (List ℕ)) → ls ≡ x ++ y → l ∷ ls ≡ l ∷ (x ++ y)
     longer x y are = ap (λ (z : List (List ℕ)). l ∷ z) are
 
     by-line : (x : HeaderLine) → LineMeans l x
-        → ((g : Keys) (rs : List (List Cell)) (qs : List Pair) → Held g rs qs → loadGo inForm lim (k + 1) ls (went (reading Header g rs [])) ≡ accepted t → HeaderRest ls qs t)
+        → ((g : Keys) (rs : List (List Cell)) (qs : List Pair) → HeaderKept g rs qs → loadGo inForm lim (k + 1) ls (goesOn (reading Header g rs [])) ≡ accepted t → HeaderRest ls qs t)
         → loadGo inForm lim (k + 1) ls (judgedBy inForm (headerAsks lim h rows l x)) ≡ accepted t → HeaderRest (l ∷ ls) ps t
     by-line header.NoForm m ih x = stopped lim (k + 1) ls _ t x
     by-line header.Blank m ih x = let (pairs, header, tail, are, keys, rest, y) = ih h rows ps held x in (pairs, l ∷ header, tail, longer header tail are, inl (m, keys), rest, y)
@@ -175,15 +175,15 @@ header-go lim t (l ∷ ls) k h rows ps held e = by-line (lineOf l) (line-written
     by-line (header.Known i v q z) (p, line, key, value, part) ih x = by-verdict (inForm (keyConditions lim h (length rows) i v)) refl x
       where
         by-verdict : (y : Verdict) → inForm (keyConditions lim h (length rows) i v) ≡ y
-            → loadGo inForm lim (k + 1) ls (judged y (reading Header (keep h v) (keepRow v (take (z - q) (drop q l)) rows) [])) ≡ accepted t → HeaderRest (l ∷ ls) ps t
+            → loadGo inForm lim (k + 1) ls (judged y (reading Header (keepValue h v) (keepRow v (take (z - q) (drop q l)) rows) [])) ≡ accepted t → HeaderRest (l ∷ ls) ps t
         by-verdict Fine f y =
             let g = known-held lim h rows ps i v (take (z - q) (drop q l)) p held f key value part in
-            let (pairs, header, tail, are, keys, rest, says) = ih (keep h v) (keepRow v (take (z - q) (drop q l)) rows) (p ∷ ps) g y in
+            let (pairs, header, tail, are, keys, rest, says) = ih (keepValue h v) (keepRow v (take (z - q) (drop q l)) rows) (p ∷ ps) g y in
             (p ∷ pairs, l ∷ header, tail, longer header tail are, inr (p, pairs, refl, line, keys), rest, says)
         by-verdict (Refuse r) f y = stopped lim (k + 1) ls r t y
 
 -- before the first line
-start-held : Held noKeys [] []
+start-held : HeaderKept noKeys [] []
 unfolding valuesOf
 start-held = (
   (unset, unset, unset, unset, unset, unset),
@@ -193,8 +193,8 @@ start-held = (
     unset : {P : List ℕ → Type 0} → Slot 0 P []
     unset = record { either = inl (refl, refl) }
 
-pub text-written : (lim : Limits) (text : List ℕ) (t : Table) → readOf lim text ≡ accepted t → TableText text t
-unfolding readOf
+pub text-written : (lim : Limits) (text : List ℕ) (t : Table) → loadInForm lim text ≡ accepted t → TableText text t
+unfolding loadInForm
 text-written lim text t e =
     let (pairs, header, tail, are, keys, (charmap, body, last, lines, c, each, (end, rest, ends, d, blanks)), says) = header-go lim t (linesOf text) 0 noKeys [] [] start-held e in
     let all : linesOf text ≡ header ++ (charmap ∷ (body ++ (end ∷ rest))) =
@@ -218,50 +218,50 @@ text-written lim text t e =
 -- ## A text of the grammar is read as its table
 
 -- one line
-goes : (lim : Limits) (k : ℕ) (l : List ℕ) (ls : List (List ℕ)) (r q : Reading) → stepOf inForm lim r l ≡ went q
-    → loadGo inForm lim k (l ∷ ls) (went r) ≡ loadGo inForm lim (k + 1) ls (went q)
+goes : (lim : Limits) (k : ℕ) (l : List ℕ) (ls : List (List ℕ)) (r q : Reading) → lineStep inForm lim r l ≡ goesOn q
+    → loadGo inForm lim k (l ∷ ls) (goesOn r) ≡ loadGo inForm lim (k + 1) ls (goesOn q)
 unfolding loadGo
 goes lim k l ls r q e = ap (loadGo inForm lim (k + 1) ls) e
 
 module _ (lim : Limits) (h : Keys) (rows : List (List Cell)) where
-  blank-ended : (ms : List Line) (l : List ℕ) → BlankLine l → stepOf inForm lim (reading Ended h rows ms) l ≡ went (reading Ended h rows ms)
+  blank-ended : (ms : List Line) (l : List ℕ) → BlankLine l → lineStep inForm lim (reading Ended h rows ms) l ≡ goesOn (reading Ended h rows ms)
   unfolding inForm
-  blank-ended ms l b = ap (λ (f : Form). judgedBy inForm (lastAsks h rows ms f)) (blank-last l b)
+  blank-ended ms l b = ap (λ (f : BodyLine). judgedBy inForm (lastAsks h rows ms f)) (blank-last l b)
 
-  blank-mapped : (ms : List Line) (l : List ℕ) → BlankLine l → stepOf inForm lim (reading Mappings h rows ms) l ≡ went (reading Mappings h rows ms)
+  blank-mapped : (ms : List Line) (l : List ℕ) → BlankLine l → lineStep inForm lim (reading Mappings h rows ms) l ≡ goesOn (reading Mappings h rows ms)
   unfolding inForm
-  blank-mapped ms l b = ap (λ (f : Form). judgedBy inForm (mappingAsks lim h rows ms f)) (blank-body l b)
+  blank-mapped ms l b = ap (λ (f : BodyLine). judgedBy inForm (mappingAsks lim h rows ms f)) (blank-body l b)
 
-  line-mapped : (ms : List Line) (n : Line) (l : List ℕ) → MappingLine n l → stepOf inForm lim (reading Mappings h rows ms) l ≡ went (reading Mappings h rows (n ∷ ms))
-  line-mapped ms n l m = ap (λ (f : Form). judgedBy inForm (mappingAsks lim h rows ms f)) (mapping-line-reads n l m) ∙ mapping-goes lim h rows ms (n .point) (n .code) (n .indicator)
+  line-mapped : (ms : List Line) (n : Line) (l : List ℕ) → MappingLine n l → lineStep inForm lim (reading Mappings h rows ms) l ≡ goesOn (reading Mappings h rows (n ∷ ms))
+  line-mapped ms n l m = ap (λ (f : BodyLine). judgedBy inForm (mappingAsks lim h rows ms f)) (mapping-line-reads n l m) ∙ mapping-goes lim h rows ms (n .point) (n .code) (n .indicator)
 
-  end-mapped : (ms : List Line) (l : List ℕ) → EndLine l → stepOf inForm lim (reading Mappings h rows ms) l ≡ went (reading Ended h rows ms)
+  end-mapped : (ms : List Line) (l : List ℕ) → EndLine l → lineStep inForm lim (reading Mappings h rows ms) l ≡ goesOn (reading Ended h rows ms)
   unfolding inForm
-  end-mapped ms l e = ap (λ (f : Form). judgedBy inForm (mappingAsks lim h rows ms f)) (end-body l e)
+  end-mapped ms l e = ap (λ (f : BodyLine). judgedBy inForm (mappingAsks lim h rows ms f)) (end-body l e)
 
-  blank-headed : (l : List ℕ) → BlankLine l → stepOf inForm lim (reading Header h rows []) l ≡ went (reading Header h rows [])
+  blank-headed : (l : List ℕ) → BlankLine l → lineStep inForm lim (reading Header h rows []) l ≡ goesOn (reading Header h rows [])
   unfolding inForm
   blank-headed l b = ap (λ (x : HeaderLine). judgedBy inForm (headerAsks lim h rows l x)) (blank-line-reads l b)
 
   charmap-headed : (l : List ℕ) → CharmapLine l → inForm (charmapConditions h rows) ≡ Fine
-      → stepOf inForm lim (reading Header h rows []) l ≡ went (reading Mappings h (rowsAt h rows) [])
+      → lineStep inForm lim (reading Header h rows []) l ≡ goesOn (reading Mappings h (rowsAt h rows) [])
   charmap-headed l c f =
       ap (λ (x : HeaderLine). judgedBy inForm (headerAsks lim h rows l x)) (charmap-line-reads l c) ∙ ap (λ (v : Verdict). judged v (reading Mappings h (rowsAt h rows) [])) f
 
-  key-headed : (l : List ℕ) (k : Key) (v : Value) (q e : ℕ) → lineOf l ≡ header.Known k v q e → inForm (keyConditions lim h (length rows) k v) ≡ Fine
-      → stepOf inForm lim (reading Header h rows []) l ≡ went (reading Header (keep h v) (keepRow v (take (e - q) (drop q l)) rows) [])
-  key-headed l k v q e told f =
-      ap (λ (x : HeaderLine). judgedBy inForm (headerAsks lim h rows l x)) told ∙ ap (λ (x : Verdict). judged x (reading Header (keep h v) (keepRow v (take (e - q) (drop q l)) rows) [])) f
+  key-headed : (l : List ℕ) (k : Key) (v : Value) (q e : ℕ) → headerLineOf l ≡ header.Known k v q e → inForm (keyConditions lim h (length rows) k v) ≡ Fine
+      → lineStep inForm lim (reading Header h rows []) l ≡ goesOn (reading Header (keepValue h v) (keepRow v (take (e - q) (drop q l)) rows) [])
+  key-headed l k v q e line-read f =
+      ap (λ (x : HeaderLine). judgedBy inForm (headerAsks lim h rows l x)) line-read ∙ ap (λ (x : Verdict). judged x (reading Header (keepValue h v) (keepRow v (take (e - q) (drop q l)) rows) [])) f
 
   -- blank lines behind END CHARMAP
-  last-lines : (ls : List (List ℕ)) (k : ℕ) (ms : List Line) → All BlankLine ls → loadGo inForm lim k ls (went (reading Ended h rows ms)) ≡ accepted (tableWith h rows ms)
+  last-lines : (ls : List (List ℕ)) (k : ℕ) (ms : List Line) → All BlankLine ls → loadGo inForm lim k ls (goesOn (reading Ended h rows ms)) ≡ accepted (tableWith h rows ms)
   unfolding loadGo outcomeAt tableOf
   last-lines [] k ms b = refl
   last-lines (l ∷ ls) k ms b = goes lim k l ls (reading Ended h rows ms) (reading Ended h rows ms) (blank-ended ms l (b .0)) ∙ last-lines ls (k + 1) ms (b .1)
 
   -- mapping lines, END CHARMAP, blank lines
   body-lines : (end : List ℕ) (rest : List (List ℕ)) → EndLine end → All BlankLine rest → (body : List (List ℕ)) (k : ℕ) (ns ms : List Line) → Listed MappingLine ns body
-      → loadGo inForm lim k (body ++ (end ∷ rest)) (went (reading Mappings h rows ms)) ≡ accepted (tableWith h rows (reverseAux ns ms))
+      → loadGo inForm lim k (body ++ (end ∷ rest)) (goesOn (reading Mappings h rows ms)) ≡ accepted (tableWith h rows (reverseAux ns ms))
   body-lines end rest e b [] k ns ms l =
       goes lim k end rest (reading Mappings h rows ms) (reading Ended h rows ms) (end-mapped ms end e) ∙ last-lines rest (k + 1) ms b
       ∙ ap (λ (x : List Line). accepted (tableWith h rows (reverseAux x ms))) (sym l)
@@ -284,7 +284,7 @@ module _ (lim : Limits) (t : Table) (charmap : List ℕ) (body : List (List ℕ)
     (c : CharmapLine charmap) (m : Listed MappingLine (reverse (t .lines)) body) (e : EndLine end) (b : All BlankLine rest) where
   -- CHARMAP and what follows it
   charmap-lines : (k : ℕ) (h : Keys) (rows : List (List Cell)) (ps : List Pair) → Ordered h rows ps → HeaderSays ps t
-      → loadGo inForm lim k (charmap ∷ (body ++ (end ∷ rest))) (went (reading Header h rows [])) ≡ accepted t
+      → loadGo inForm lim k (charmap ∷ (body ++ (end ∷ rest))) (goesOn (reading Header h rows [])) ≡ accepted t
   charmap-lines k h rows ps held y =
       let n = nothing-absent h rows ps t held y in
       let hd : Keys = h in
@@ -294,25 +294,25 @@ module _ (lim : Limits) (t : Table) (charmap : List ℕ) (body : List (List ℕ)
       ∙ body-lines lim hd (rowsAt h rows) end rest e b body (k + 1) (reverse (t .lines)) [] m ∙ ap accepted z
 
   -- ps are the keys so far, the last one first, and qs those to come
-  header-lines : (header : List (List ℕ)) (k : ℕ) (h : Keys) (rows : List (List Cell)) (ps qs : List Pair) → Held h rows ps → Listed KeyLine qs header
+  header-lines : (header : List (List ℕ)) (k : ℕ) (h : Keys) (rows : List (List Cell)) (ps qs : List Pair) → HeaderKept h rows ps → Listed KeyLine qs header
       → (y : HeaderSays (reverseAux ps qs) t) → length (y .entries) ≤ lim .rows
-      → loadGo inForm lim k (header ++ (charmap ∷ (body ++ (end ∷ rest)))) (went (reading Header h rows [])) ≡ accepted t
+      → loadGo inForm lim k (header ++ (charmap ∷ (body ++ (end ∷ rest)))) (goesOn (reading Header h rows [])) ≡ accepted t
   header-lines [] k h rows ps qs held l y room =
       charmap-lines k h rows (reverse ps) (in-order h rows ps held) (subst (λ (x : List Pair). HeaderSays (reverseAux ps x) t) l y)
   header-lines (s ∷ header) k h rows ps qs held (inl (x, l)) y room =
       goes lim k s (header ++ (charmap ∷ (body ++ (end ∷ rest)))) (reading Header h rows []) (reading Header h rows []) (blank-headed lim h rows s x)
       ∙ header-lines header (k + 1) h rows ps qs held l y room
   header-lines (s ∷ header) k h rows ps qs held (inr (p, more, are, x, l)) y room =
-      let told = key-line-reads p s x in
+      let line-read = key-line-reads p s x in
       let i : Key = keyOf (p .key) in
       let v : Value = valueOf i (p .value) in
-      let w : List ℕ = take (told .to - told .from) (drop (told .from) s) in
+      let w : List ℕ = take (line-read .to - line-read .from) (drop (line-read .from) s) in
       let y2 : (z : HeaderSays (reverseAux ps (p ∷ more)) t) × (length (z .entries) ≤ lim .rows)
       = subst (λ (x : List Pair). (z : HeaderSays (reverseAux ps x) t) × (length (z .entries) ≤ lim .rows)) are (y, room) in
       let f = key-fine lim h (length rows) i v (key-asked lim h rows ps more (p .value) t held (p .key) i (key-means (p .key)) (y2 .0) (y2 .1)) in
-      goes lim k s (header ++ (charmap ∷ (body ++ (end ∷ rest)))) (reading Header h rows []) (reading Header (keep h v) (keepRow v w rows) [])
-      (key-headed lim h rows s i v (told .from) (told .to) (told .line) f)
-      ∙ header-lines header (k + 1) (keep h v) (keepRow v w rows) (p ∷ ps) more (known-held lim h rows ps i v w p held f refl refl (told .part)) l (y2 .0) (y2 .1)
+      goes lim k s (header ++ (charmap ∷ (body ++ (end ∷ rest)))) (reading Header h rows []) (reading Header (keepValue h v) (keepRow v w rows) [])
+      (key-headed lim h rows s i v (line-read .from) (line-read .to) (line-read .line) f)
+      ∙ header-lines header (k + 1) (keepValue h v) (keepRow v w rows) (p ∷ ps) more (known-held lim h rows ps i v w p held f refl refl (line-read .part)) l (y2 .0) (y2 .1)
 
 -- no more state lines than rows of the table
 entries-few : (n : ℕ) (ps : List Pair) (t : Table) (y : HeaderSays ps t) → length (t .rows) ≤ n → length (y .entries) ≤ n
@@ -322,10 +322,10 @@ entries-few n ps t y h = by-rows (y .rows)
     by-rows (inl (one, e)) = omega (arith, ap length e, length-map (y .entries) rowOf)
     by-rows (inr (e, x, z)) = omega (arith, ap length e)
 
-pub text-reads : (lim : Limits) (text : List ℕ) (t : Table) → TableText text t → length (t .rows) ≤ lim .rows → readOf lim text ≡ accepted t
-unfolding readOf
+pub text-reads : (lim : Limits) (text : List ℕ) (t : Table) → TableText text t → length (t .rows) ≤ lim .rows → loadInForm lim text ≡ accepted t
+unfolding loadInForm
 text-reads lim text t x h =
-    ap (λ (ls : List (List ℕ)). loadGo inForm lim 0 ls (went start)) (lines-reads (x .header ++ (x .charmap ∷ (x .body ++ (x .ending ∷ x .rest)))) text (x .lines))
+    ap (λ (ls : List (List ℕ)). loadGo inForm lim 0 ls (goesOn start)) (lines-reads (x .header ++ (x .charmap ∷ (x .body ++ (x .ending ∷ x .rest)))) text (x .lines))
     ∙ header-lines lim t (x .charmap) (x .body) (x .ending) (x .rest) (x .charmap-line) (x .mappings) (x .end-line) (x .nothing-else) (x .header) 0 noKeys [] [] (x .pairs)
     start-held (x .keys) (x .says) (entries-few (lim .rows) (x .pairs) t (x .says) h)
 
@@ -335,7 +335,7 @@ text-reads lim text t x h =
 pub one-table : (text : List ℕ) (t u : Table) → TableText text t → TableText text u → t ≡ u
 one-table text t u x y =
     let lim : Limits = record { rows = length (t .rows) + length (u .rows); mappings = 0; text = 0 } in
-    accepted-same t u (sym (text-reads lim text t x (omega arith)) ∙ text-reads lim text u y (omega arith))
+    accepted-injective t u (sym (text-reads lim text t x (omega arith)) ∙ text-reads lim text u y (omega arith))
 
 -- A TEXT IS ACCEPTED EXACTLY WHEN IT IS A TEXT OF THE GRAMMAR WHOSE ROWS AND LINES KEEP THE RULES
 pub accepted-exactly : (lim : Limits) (text : List ℕ) (t : Table) → 1 ≤ lim .rows → (loadOf lim text ≡ accepted t) ↔ (TableText text t × Keeps lim t)
@@ -345,4 +345,4 @@ accepted-exactly lim text t one = (
 )
   where
     rows-within : (lim : Limits) (t : Table) → Keeps lim t → length (t .rows) ≤ lim .rows
-    rows-within lim t k = leb-true (length (t .rows)) (lim .rows) (both-right (leb 1 (length (t .rows))) (leb (length (t .rows)) (lim .rows)) (k .rule1-rows))
+    rows-within lim t k = leb-true (length (t .rows)) (lim .rows) (and-right (leb 1 (length (t .rows))) (leb (length (t .rows)) (lim .rows)) (k .rule1-rows))

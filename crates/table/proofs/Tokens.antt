@@ -6,17 +6,20 @@ use mathlib.Core.Logic.{_⊎_, inl, inr}
 use mathlib.Core.List.{List, [], _∷_, _++_, append-assoc}
 use mathlib.Core.Bool.{Bool, true, false}
 use native.Mathlib.Omega.{arith}
-use lib.ListN.{length, getD, drop, length-drop, length-append, drop-of-length-le}
-use lib.Seq.{getD-drop, drop-drop, drop-append-seam}
+use lib.ListN.{length, getD, drop, length-append, drop-of-length-le}
+use lib.Seq.{getD-drop, drop-append-seam}
 use lib.Dec.{ltb, leb, eqb}
 use borrow.Author.Tests.{le-leb, lt-leb, le-ltb, eqb-true, leb-true, leb-false, ltb-false}
 use Rattle.lists.specs.Pick.{pick}
 use Rattle.lists.specs.Order.{All}
-use Rattle.lists.proofs.Laws.{tests, drop-step, clash, both-left, both-right}
+use Rattle.lists.proofs.Laws.{drop-∷}
+use Rattle.lists.proofs.Parts.{drop-+, drop⇒length}
 use Rattle.lists.proofs.Cases.{pick-case}
-use Rattle.lists.proofs.Append.{all-append}
+use Rattle.lists.proofs.Append.{All-++⁺}
 use Rattle.table.specs.Grammar.{Blanks, Token, Digit, Hex, Closes}
-use Rattle.table.specs.Text.{digitOf, byteOf, skipOf, skipAt, begins, endsAt}
+use Rattle.table.specs.Text.{digitOf, byteOf, skipOf, skipAt, endsAt}
+use Rattle.lists.specs.Strings.{begins}
+use Rattle.lists.proofs.Strings.{begins⇒++}
 use Rattle.table.proofs.TextLaws.{getD-in, getD-out, digit-none}
 
 -- without the blanks in front
@@ -35,30 +38,24 @@ closes (b ∷ bs) = eqb b 35
 
 module _ (s : List ℕ) where
   -- what stands at a place, by the list from there on
-  pub byte-at : (at i : ℕ) (r : List ℕ) → drop at s ≡ r → byteOf s (at + i) ≡ byteOf r i
-  byte-at at i r h = sym (getD-drop at s i 256) ∙ ap (λ (l : List ℕ). getD l i 256) h
+  pub drop⇒byteOf-+ : (at i : ℕ) (r : List ℕ) → drop at s ≡ r → byteOf s (at + i) ≡ byteOf r i
+  drop⇒byteOf-+ at i r h = sym (getD-drop at s i 256) ∙ ap (λ (l : List ℕ). getD l i 256) h
 
-  pub byte-here : (at : ℕ) (r : List ℕ) → drop at s ≡ r → byteOf s at ≡ first r
-  byte-here at r h = let k : at ≡ at + 0 = omega arith in ap (λ (j : ℕ). byteOf s j) k ∙ byte-at at 0 r h
+  pub drop⇒byteOf : (at : ℕ) (r : List ℕ) → drop at s ≡ r → byteOf s at ≡ first r
+  drop⇒byteOf at r h = let k : at ≡ at + 0 = omega arith in ap (λ (j : ℕ). byteOf s j) k ∙ drop⇒byteOf-+ at 0 r h
 
-  pub past : (at n : ℕ) (r : List ℕ) → drop at s ≡ r → drop (at + n) s ≡ drop n r
-  past at n r h = sym (drop-drop n at s) ∙ ap (λ (l : List ℕ). drop n l) h
-
-  pub left-here : (at : ℕ) (r : List ℕ) → drop at s ≡ r → length s - at ≡ length r
-  left-here at r h = sym (length-drop at s) ∙ ap length h
-
-  pub ends-here : (at : ℕ) (r : List ℕ) → drop at s ≡ r → endsAt s at ≡ closes r
+  pub drop⇒endsAt : (at : ℕ) (r : List ℕ) → drop at s ≡ r → endsAt s at ≡ closes r
   unfolding endsAt
-  ends-here at [] h = let k : length s ≤ at = omega (arith, left-here at [] h) in rw (le-leb (length s) at k)
-  ends-here at (b ∷ bs) h =
-      let k : at < length s = omega (arith, left-here at (b ∷ bs) h) in
-      rw (lt-leb (length s) at k, byte-here at (b ∷ bs) h)
+  drop⇒endsAt at [] h = let k : length s ≤ at = omega (arith, drop⇒length s at [] h) in rw (le-leb (length s) at k)
+  drop⇒endsAt at (b ∷ bs) h =
+      let k : at < length s = omega (arith, drop⇒length s at (b ∷ bs) h) in
+      rw (lt-leb (length s) at k, drop⇒byteOf at (b ∷ bs) h)
 
   -- behind the blanks
   skip-of : (at : ℕ) (r : List ℕ) → drop at s ≡ r → drop (skipOf at r) s ≡ strip r
   unfolding skipOf strip
   skip-of at [] h = h
-  skip-of at (b ∷ bs) h = by-blank (eqb b 32) (eqb b 9) (skip-of (at + 1) bs (past at 1 (b ∷ bs) h))
+  skip-of at (b ∷ bs) h = by-blank (eqb b 32) (eqb b 9) (skip-of (at + 1) bs (drop-+ s at 1 (b ∷ bs) h))
     where
       by-blank : (x y : Bool) → drop (skipOf (at + 1) bs) s ≡ strip bs
           → drop (pick x (skipOf (at + 1) bs) (pick y (skipOf (at + 1) bs) at)) s ≡ pick x (strip bs) (pick y (strip bs) (b ∷ bs))
@@ -66,8 +63,8 @@ module _ (s : List ℕ) where
       by-blank false true e = e
       by-blank false false e = h
 
-  pub skip-here : (at : ℕ) (r : List ℕ) → drop at s ≡ r → drop (skipAt s at) s ≡ strip r
-  skip-here at r h = ap (λ (l : List ℕ). drop (skipOf at l) s) h ∙ skip-of at r h
+  pub drop⇒skipAt : (at : ℕ) (r : List ℕ) → drop at s ≡ r → drop (skipAt s at) s ≡ strip r
+  drop⇒skipAt at r h = ap (λ (l : List ℕ). drop (skipOf at l) s) h ∙ skip-of at r h
 
   -- a byte of the line, and what lies behind it
   pub at-byte : (p q b : ℕ) → q ≡ p + 1 → byteOf s p ≡ b → (b ≡ 256 → ⊥) → drop p s ≡ b ∷ drop q s
@@ -77,7 +74,7 @@ module _ (s : List ℕ) where
       by-end true k = absurd (n (sym h ∙ getD-out s p (leb-true (length s) p k)))
       by-end false k =
           let i : p < length s = leb-false (length s) p k in
-          drop-step s p i ∙ ap (λ (j : ℕ). j ∷ drop (p + 1) s) (sym (getD-in s p i) ∙ h) ∙ ap (λ (j : ℕ). b ∷ drop j s) (sym e)
+          drop-∷ s p i ∙ ap (λ (j : ℕ). j ∷ drop (p + 1) s) (sym (getD-in s p i) ∙ h) ∙ ap (λ (j : ℕ). b ∷ drop j s) (sym e)
 
 -- ## Blanks
 
@@ -112,20 +109,20 @@ gap-of (b ∷ bs) = by-blank (gap-of bs) (eqb b 32) (eqb b 9) refl refl
     by-blank g false false p q = ([], tt, refl)
 
 skip-gap : (s : List ℕ) (q : ℕ) → Gap (drop q s) (drop (skipAt s q) s)
-skip-gap s q = rw (skip-here s q (drop q s) refl) (gap-of (drop q s))
+skip-gap s q = rw (drop⇒skipAt s q (drop q s) refl) (gap-of (drop q s))
 
 blanks-all : (t : List ℕ) → strip t ≡ [] → Blanks t
 blanks-all t e =
     let g = gap-of t in
     let k : t ≡ g .0 ++ [] = g .2 ∙ ap (λ (l : List ℕ). g .0 ++ l) e in
-    subst Blanks (sym k) (all-append (λ b. (b ≡ 32) ⊎ (b ≡ 9)) (g .0) [] (g .1) tt)
+    subst Blanks (sym k) (All-++⁺ (λ b. (b ≡ 32) ⊎ (b ≡ 9)) (g .0) [] (g .1) tt)
 
 -- only blanks are left exactly where nothing is left behind them
-pub blank-left : (v : List ℕ) (e : ℕ) (r : List ℕ) → drop e v ≡ r → Blanks r → length v ≤ skipAt v e
-blank-left v e r h b = omega (arith, left-here v (skipAt v e) [] (skip-here v e r h ∙ strip-all r b))
+pub Blanks⇒skipAt : (v : List ℕ) (e : ℕ) (r : List ℕ) → drop e v ≡ r → Blanks r → length v ≤ skipAt v e
+Blanks⇒skipAt v e r h b = omega (arith, drop⇒length v (skipAt v e) [] (drop⇒skipAt v e r h ∙ strip-all r b))
 
-pub left-blank : (v : List ℕ) (e : ℕ) → length v ≤ skipAt v e → Blanks (drop e v)
-left-blank v e h = blanks-all (drop e v) (sym (skip-here v e (drop e v) refl) ∙ drop-of-length-le v h)
+pub skipAt⇒Blanks : (v : List ℕ) (e : ℕ) → length v ≤ skipAt v e → Blanks (drop e v)
+skipAt⇒Blanks v e h = blanks-all (drop e v) (sym (drop⇒skipAt v e (drop e v) refl) ∙ drop-of-length-le v h)
 
 -- ## Tokens
 
@@ -143,29 +140,29 @@ module _ (w t r : List ℕ) (n : Solid w) (k : Token w t r) where
   pub token-front : strip t ≡ w ++ r
   token-front = ap strip (k .whole) ∙ strip-gap (k .gap) (w ++ r) (k .blanks) ∙ strip-solid w r n
 
-  pub token-here : (s : List ℕ) (q : ℕ) → drop q s ≡ t → drop (skipAt s q) s ≡ w ++ r
-  token-here s q h = skip-here s q t h ∙ token-front
+  pub Token⇒skipAt : (s : List ℕ) (q : ℕ) → drop q s ≡ t → drop (skipAt s q) s ≡ w ++ r
+  Token⇒skipAt s q h = drop⇒skipAt s q t h ∙ token-front
 
-  pub token-past : (s : List ℕ) (q : ℕ) → drop q s ≡ t → drop (skipAt s q + length w) s ≡ r
-  token-past s q h = past s (skipAt s q) (length w) (w ++ r) (token-here s q h) ∙ drop-append-seam w r
+  pub Token⇒past : (s : List ℕ) (q : ℕ) → drop q s ≡ t → drop (skipAt s q + length w) s ≡ r
+  Token⇒past s q h = drop-+ s (skipAt s q) (length w) (w ++ r) (Token⇒skipAt s q h) ∙ drop-append-seam w r
 
 pub token-less : (w t r : List ℕ) → Token w t r → length w + length r ≤ length t
 token-less w t r k = omega (arith, ap length (k .whole), length-append (k .gap) (w ++ r), length-append w r)
 
 -- a token whose bytes stand behind the blanks
-pub token-made : (s : List ℕ) (q e : ℕ) (w : List ℕ) → drop (skipAt s q) s ≡ w ++ drop e s → Token w (drop q s) (drop e s)
-token-made s q e w h = let g = skip-gap s q in record { gap = g .0; blanks = g .1; whole = g .2 ∙ ap (λ (l : List ℕ). g .0 ++ l) h }
+pub drop⇒Token : (s : List ℕ) (q e : ℕ) (w : List ℕ) → drop (skipAt s q) s ≡ w ++ drop e s → Token w (drop q s) (drop e s)
+drop⇒Token s q e w h = let g = skip-gap s q in record { gap = g .0; blanks = g .1; whole = g .2 ∙ ap (λ (l : List ℕ). g .0 ++ l) h }
 
 -- a token of one byte
-pub sign-written : (s : List ℕ) (q x : ℕ) → eqb (byteOf s (skipAt s q)) x ≡ true → (x ≡ 256 → ⊥) → Token (x ∷ []) (drop q s) (drop (skipAt s q + 1) s)
-sign-written s q x e n = token-made s q (skipAt s q + 1) (x ∷ []) (at-byte s (skipAt s q) (skipAt s q + 1) x refl (eqb-true (byteOf s (skipAt s q)) x e) n)
+pub byteOf⇒Token : (s : List ℕ) (q x : ℕ) → eqb (byteOf s (skipAt s q)) x ≡ true → (x ≡ 256 → ⊥) → Token (x ∷ []) (drop q s) (drop (skipAt s q + 1) s)
+byteOf⇒Token s q x e n = drop⇒Token s q (skipAt s q + 1) (x ∷ []) (at-byte s (skipAt s q) (skipAt s q + 1) x refl (eqb-true (byteOf s (skipAt s q)) x e) n)
 
 -- more blanks before a token
 pub token-behind : (g w t r : List ℕ) → Blanks g → Token w t r → Token w (g ++ t) r
 token-behind g w t r b k =
     record {
       gap = g ++ k .gap;
-      blanks = all-append (λ x. (x ≡ 32) ⊎ (x ≡ 9)) g (k .gap) b (k .blanks);
+      blanks = All-++⁺ (λ x. (x ≡ 32) ⊎ (x ≡ 9)) g (k .gap) b (k .blanks);
       whole = ap (λ (l : List ℕ). g ++ l) (k .whole) ∙ sym (append-assoc g (k .gap) (w ++ r));
     }
 
@@ -173,25 +170,11 @@ token-behind g w t r b k =
 pub token-bare : (w t r : List ℕ) → Solid w → Token w t r → Token w (strip t) r
 token-bare w t r n k = record { gap = []; blanks = tt; whole = token-front w t r n k }
 
--- a word that the list begins with
-pub begins-yes : (w r : List ℕ) → begins w (w ++ r) ≡ true
-unfolding begins
-begins-yes [] r = refl
-begins-yes (x ∷ w) r = let e : eqb x x ≡ true = search tests in rw (e, begins-yes w r)
-
-begins-of : (w t : List ℕ) → begins w t ≡ true → t ≡ w ++ drop (length w) t
-unfolding begins
-begins-of [] t e = refl
-begins-of (x ∷ w) [] e = absurd (clash e refl)
-begins-of (x ∷ w) (b ∷ t) e =
-    let h = both-left (eqb x b) (begins w t) e in
-    ap (λ (y : ℕ). y ∷ t) (sym (eqb-true x b h)) ∙ ap (λ (l : List ℕ). x ∷ l) (begins-of w t (both-right (eqb x b) (begins w t) e))
-
 -- a word behind blanks, if the line begins with it there
-pub word-written : (s : List ℕ) (q : ℕ) (w : List ℕ) → begins w (drop (skipAt s q) s) ≡ true → Token w (drop q s) (drop (skipAt s q + length w) s)
-word-written s q w e =
-    token-made s q (skipAt s q + length w) w
-    (begins-of w (drop (skipAt s q) s) e ∙ ap (λ (l : List ℕ). w ++ l) (sym (past s (skipAt s q) (length w) (drop (skipAt s q) s) refl)))
+pub begins⇒Token : (s : List ℕ) (q : ℕ) (w : List ℕ) → begins w (drop (skipAt s q) s) ≡ true → Token w (drop q s) (drop (skipAt s q + length w) s)
+begins⇒Token s q w e =
+    drop⇒Token s q (skipAt s q + length w) w
+    (begins⇒++ w (drop (skipAt s q) s) e ∙ ap (λ (l : List ℕ). w ++ l) (sym (drop-+ s (skipAt s q) (length w) (drop (skipAt s q) s) refl)))
 
 -- ## Hexadecimal digits
 
@@ -203,12 +186,14 @@ pub digit-value : (v h : ℕ) → Digit v h → digitOf h ≡ v
 unfolding digitOf
 digit-value v h (inl (a, e)) = let k : 48 + v - 48 ≡ v = omega arith in rw (e, le-ltb (48 + v) 48 (omega arith), le-leb (48 + v) 57 (omega arith), k)
 digit-value v h (inr (a, b, inl e)) =
+    let z : h ≡ 55 + v = omega arith in
     let k : 55 + v - 55 ≡ v = omega arith in
-    rw (e, le-ltb (55 + v) 48 (omega arith), lt-leb (55 + v) 57 (omega arith), le-ltb (55 + v) 65 (omega arith), le-leb (55 + v) 70 (omega arith), k)
+    rw (z, le-ltb (55 + v) 48 (omega arith), lt-leb (55 + v) 57 (omega arith), le-ltb (55 + v) 65 (omega arith), le-leb (55 + v) 70 (omega arith), k)
 digit-value v h (inr (a, b, inr e)) =
+    let z : h ≡ 87 + v = omega arith in
     let k : 87 + v - 87 ≡ v = omega arith in
     rw (
-      e,
+      z,
       le-ltb (87 + v) 48 (omega arith),
       lt-leb (87 + v) 57 (omega arith),
       le-ltb (87 + v) 65 (omega arith),
@@ -223,9 +208,9 @@ digit-small v h (inl (a, e)) = omega arith
 digit-small v h (inr (a, b, e)) = omega arith
 
 -- and back
-pub digit-of : (h : ℕ) → digitOf h < 16 → Digit (digitOf h) h
+pub digitOf⇒Digit : (h : ℕ) → digitOf h < 16 → Digit (digitOf h) h
 unfolding digitOf
-digit-of h =
+digitOf⇒Digit h =
     pick-case P (ltb h 48) _ _ none
     (λ a. pick-case P (leb h 57) _ _ (λ b _. let x = ltb-false h 48 a in let y = leb-true h 57 b in inl (omega arith, omega arith))
     (λ _. pick-case P (ltb h 65) _ _ none
@@ -247,19 +232,19 @@ hexFrom n (h ∷ ds) = hexFrom (n * 16 + digitOf h) ds
 abbrev pub AllDigits : List ℕ → Type 0
 AllDigits ds = All (λ h. digitOf h < 16) ds
 
-pub hex-all : (n : ℕ) (ds : List ℕ) (u : ℕ) → Hex n ds u → AllDigits ds
-hex-all n [] u h = tt
-hex-all n (d ∷ ds) u (v, k, h) = (omega (arith, digit-value v d k, digit-small v d k), hex-all (n * 16 + v) ds u h)
+pub Hex⇒AllDigits : (n : ℕ) (ds : List ℕ) (u : ℕ) → Hex n ds u → AllDigits ds
+Hex⇒AllDigits n [] u h = tt
+Hex⇒AllDigits n (d ∷ ds) u (v, k, h) = (omega (arith, digit-value v d k, digit-small v d k), Hex⇒AllDigits (n * 16 + v) ds u h)
 
-pub hex-value : (n : ℕ) (ds : List ℕ) (u : ℕ) → Hex n ds u → hexFrom n ds ≡ u
+pub Hex⇒hexFrom : (n : ℕ) (ds : List ℕ) (u : ℕ) → Hex n ds u → hexFrom n ds ≡ u
 unfolding hexFrom
-hex-value n [] u h = sym h
-hex-value n (d ∷ ds) u (v, k, h) = ap (λ (x : ℕ). hexFrom (n * 16 + x) ds) (digit-value v d k) ∙ hex-value (n * 16 + v) ds u h
+Hex⇒hexFrom n [] u h = sym h
+Hex⇒hexFrom n (d ∷ ds) u (v, k, h) = ap (λ (x : ℕ). hexFrom (n * 16 + x) ds) (digit-value v d k) ∙ Hex⇒hexFrom (n * 16 + v) ds u h
 
-pub hex-made : (n : ℕ) (ds : List ℕ) (u : ℕ) → AllDigits ds → hexFrom n ds ≡ u → Hex n ds u
+pub hexFrom⇒Hex : (n : ℕ) (ds : List ℕ) (u : ℕ) → AllDigits ds → hexFrom n ds ≡ u → Hex n ds u
 unfolding hexFrom
-hex-made n [] u a e = sym e
-hex-made n (d ∷ ds) u a e = (digitOf d, digit-of d (a .0), hex-made (n * 16 + digitOf d) ds u (a .1) e)
+hexFrom⇒Hex n [] u a e = sym e
+hexFrom⇒Hex n (d ∷ ds) u a e = (digitOf d, digitOf⇒Digit d (a .0), hexFrom⇒Hex (n * 16 + digitOf d) ds u (a .1) e)
 
 -- ## What closes a line
 
@@ -276,11 +261,11 @@ closed-of t e = by-first (strip t) refl e
         let g = gap-of t in
         inr (l, record { gap = g .0; blanks = g .1; whole = g .2 ∙ ap (λ (x : List ℕ). g .0 ++ x) (h ∙ ap (λ (x : ℕ). x ∷ l) (eqb-true b 35 c)) })
 
-pub ends-closed : (s : List ℕ) (q : ℕ) (r : List ℕ) → drop q s ≡ r → Closes r → endsAt s (skipAt s q) ≡ true
-ends-closed s q r h k = ends-here s (skipAt s q) (strip r) (skip-here s q r h) ∙ closes-strip r k
+pub Closes⇒endsAt : (s : List ℕ) (q : ℕ) (r : List ℕ) → drop q s ≡ r → Closes r → endsAt s (skipAt s q) ≡ true
+Closes⇒endsAt s q r h k = drop⇒endsAt s (skipAt s q) (strip r) (drop⇒skipAt s q r h) ∙ closes-strip r k
 
-pub ends-written : (s : List ℕ) (q : ℕ) → endsAt s (skipAt s q) ≡ true → Closes (drop q s)
-ends-written s q e = closed-of (drop q s) (sym (ends-here s (skipAt s q) (strip (drop q s)) (skip-here s q (drop q s) refl)) ∙ e)
+pub endsAt⇒Closes : (s : List ℕ) (q : ℕ) → endsAt s (skipAt s q) ≡ true → Closes (drop q s)
+endsAt⇒Closes s q e = closed-of (drop q s) (sym (drop⇒endsAt s (skipAt s q) (strip (drop q s)) (drop⇒skipAt s q (drop q s) refl)) ∙ e)
 
 -- a byte that does not close a line does not stand where it closes
 pub closed-first : (x : ℕ) (r : List ℕ) → closes r ≡ true → x < 256 → (x ≡ 35 → ⊥) → first r ≡ x → ⊥

@@ -1,6 +1,6 @@
 -- Values of the known keys but icu:state: a value of the grammar is read as what it is, and what is read is such a value, or unfit.
 -- name-reads, name-cases; class-reads, class-cases; min-reads, min-cases; max-reads, max-cases; sub-reads, sub-cases; sub1-reads, sub1-cases
--- bytes-are    the values of `\xhh` are bytes
+-- BytesValue⇒AllByte    the values of `\xhh` are bytes
 use Prim.Native.Nat.{ℕ, _+_, _-_, _/_, _<_, _≤_}
 use mathlib.Core.Path.{_≡_, refl, sym, ap, _∙_, subst}
 use mathlib.Core.Logic.{_⊎_, inl, inr}
@@ -15,19 +15,19 @@ use Rattle.lists.specs.Order.{All, In}
 use Rattle.lists.specs.Ascii.{ascii}
 use Rattle.lists.proofs.Cases.{pick-case}
 use Rattle.table.specs.Codes.{packed, AllByte}
-use Rattle.table.specs.Meaning.{same}
-use Rattle.table.specs.Text.{Series, series, broken, byteOf, skipAt, quoteEnd, bytesAt}
+use Rattle.table.specs.Text.{ByteSeries, series, broken, byteOf, skipAt, quoteEnd, bytesAt}
 use Rattle.table.specs.Header.{quotedFrom, quotedOf, nameIn, className, classIn, digitIn, minIn, maxIn, subIn, sub1Value, valueOf}
 use Rattle.table.specs.Grammar.{classes, Blanks, Token, Hex, Byte, More, Quoted, NameValue, SizeValue, BytesValue, SubcharValue}
-use Rattle.table.specs.declared.header.Quoted as read
-use Rattle.table.specs.declared.header.Quoted.the-variants.{Inside, Unquoted}
-use Rattle.table.specs.declared.header.Key.the-variants.{CodeSetName, CurMin, CurMax, ConvClass, SubChar, SubChar1}
-use Rattle.table.specs.declared.header.Value.{Value}
-use Rattle.table.specs.declared.header.Value.the-variants.{Unfit, Name, Min, Max, Sub, Sub1}
-use Rattle.table.proofs.LineLaws.{same-is}
-use Rattle.table.proofs.Tokens.{Solid, strip, first, byte-here, past, at-byte, blank-left, left-blank, token-here, token-past, token-made, hexFrom, hex-all, hex-value, closes-strip, closed-first}
+use Rattle.lists.proofs.Strings.{same⇒≡}
+use Rattle.table.proofs.Tokens.{Solid, strip, first, drop⇒byteOf, at-byte, Blanks⇒skipAt, skipAt⇒Blanks, Token⇒skipAt, Token⇒past, drop⇒Token, hexFrom, Hex⇒AllDigits, Hex⇒hexFrom, closes-strip, closed-first}
 use Rattle.table.proofs.SeriesRead.{bytes-read, RunOf, bytes-written}
-use Rattle.table.proofs.HeaderRead.{one-more, part-of, behind-part}
+use Rattle.lists.specs.Strings.{same}
+use Rattle.lists.proofs.Parts.{drop-+, +-suc-right, take-drop-++, drop-suc-++}
+use Rattle.table.specs.declared.value.Quoted as read
+use Rattle.table.specs.declared.value.Quoted.the-variants.{Inside, Unquoted}
+use Rattle.table.specs.declared.value.Key.the-variants.{CodeSetName, CurMin, CurMax, ConvClass, SubChar, SubChar1}
+use Rattle.table.specs.declared.value.Value.{Value}
+use Rattle.table.specs.declared.value.Value.the-variants.{Unfit, Name, Min, Max, Sub, Sub1}
 
 -- ## Quotes
 
@@ -37,7 +37,7 @@ NoQuote w = All (λ b. b ≡ 34 → ⊥) w
 quote-end : (at : ℕ) (w r : List ℕ) → NoQuote w → ((n : ℕ) → quoteEnd n r ≡ n) → quoteEnd at (w ++ r) ≡ at + length w
 unfolding quoteEnd
 quote-end at [] r a f = rw (add-zero at) (f at)
-quote-end at (b ∷ w) r a f = rw (ne-eqb b 34 (a .0), one-more at (length w)) (quote-end (at + 1) w r (a .1) f)
+quote-end at (b ∷ w) r a f = rw (ne-eqb b 34 (a .0), +-suc-right at (length w)) (quote-end (at + 1) w r (a .1) f)
 
 quoted-at : (v : List ℕ) (p z : ℕ) → p ≡ skipAt v 0 → byteOf v p ≡ 34 → quoteEnd (p + 1) (drop (p + 1) v) ≡ z → length v ≤ skipAt v (z + 1)
     → quotedOf v ≡ Inside (p + 1) z
@@ -54,21 +54,21 @@ quote-made : (w v r : List ℕ) → drop (skipAt v 0) v ≡ 34 ∷ (w ++ r) → 
 quote-made w v r h a f b =
     let p : ℕ = skipAt v 0 in
     let z : ℕ = p + 1 + length w in
-    let j : drop (p + 1) v ≡ w ++ r = past v p 1 (34 ∷ (w ++ r)) h in (
+    let j : drop (p + 1) v ≡ w ++ r = drop-+ v p 1 (34 ∷ (w ++ r)) h in (
       p + 1,
       z,
-      quoted-at v p z refl (byte-here v p (34 ∷ (w ++ r)) h) (ap (quoteEnd (p + 1)) j ∙ quote-end (p + 1) w r a f)
-          (blank-left v (z + 1) (drop 1 r) (behind-part v (p + 1) z w r j refl) b),
-      record { size = refl; part = part-of v (p + 1) z w r j refl },
+      quoted-at v p z refl (drop⇒byteOf v p (34 ∷ (w ++ r)) h) (ap (quoteEnd (p + 1)) j ∙ quote-end (p + 1) w r a f)
+          (Blanks⇒skipAt v (z + 1) (drop 1 r) (drop-suc-++ v (p + 1) z w r j refl) b),
+      record { size = refl; part = take-drop-++ v (p + 1) z w r j refl },
     )
 
 quoted-reads : (w v : List ℕ) → Quoted w v → (from : ℕ) × (to : ℕ) × (quotedOf v ≡ Inside from to) × Quote w v from to
 unfolding quoteEnd
 quoted-reads w v (a, inl (m, k, b)) =
     quote-made w v (34 ∷ m)
-    (token-here (ascii "\"" ++ (w ++ ascii "\"")) v m (refl, refl) k v 0 refl ∙ ap (λ (l : List ℕ). 34 ∷ l) (append-assoc w (34 ∷ []) m))
+    (Token⇒skipAt (ascii "\"" ++ (w ++ ascii "\"")) v m (refl, refl) k v 0 refl ∙ ap (λ (l : List ℕ). 34 ∷ l) (append-assoc w (34 ∷ []) m))
     a (λ n. refl) b
-quoted-reads w v (a, inr k) = quote-made w v [] (token-here (ascii "\"" ++ w) v [] (refl, refl) k v 0 refl) a (λ n. refl) tt
+quoted-reads w v (a, inr k) = quote-made w v [] (Token⇒skipAt (ascii "\"" ++ w) v [] (refl, refl) k v 0 refl) a (λ n. refl) tt
 
 -- and back: what stands before the next quote, or to the end
 abbrev UpToQuote : ℕ → List ℕ → ℕ → Type 0
@@ -92,26 +92,26 @@ QuotedOf v (Inside from to) = (w : List ℕ) × Quoted w v × Quote w v from to
 -- at: the place behind the first quote
 module _ (v : List ℕ) (at : ℕ) (opens : drop (skipAt v 0) v ≡ 34 ∷ drop at v) where
   quote-taken : (e : ℕ) → UpToQuote at (drop at v) e → length v ≤ skipAt v (e + 1) → QuotedOf v (Inside at e)
-  quote-taken e (w, r, a, i, k, c) left = (w, (a, by-end c), record { size = k; part = part-of v at e w r i k })
+  quote-taken e (w, r, a, i, k, c) left = (w, (a, by-end c), record { size = k; part = take-drop-++ v at e w r i k })
     where
       front : drop (skipAt v 0) v ≡ 34 ∷ (w ++ r)
       front = opens ∙ ap (λ (l : List ℕ). 34 ∷ l) i
 
       behind : drop (e + 1) v ≡ drop 1 r
-      behind = behind-part v at e w r i k
+      behind = drop-suc-++ v at e w r i k
 
       by-end : (r ≡ []) ⊎ ((m : List ℕ) × (r ≡ 34 ∷ m))
           → ((m : List ℕ) × Token (ascii "\"" ++ (w ++ ascii "\"")) v m × Blanks m) ⊎ Token (ascii "\"" ++ w) v []
       by-end (inl n) =
           let d : drop (e + 1) v ≡ [] = behind ∙ ap (λ (l : List ℕ). drop 1 l) n in
-          let t = token-made v 0 (e + 1) (34 ∷ w) (front ∙ ap (λ (l : List ℕ). 34 ∷ (w ++ l)) (n ∙ sym d)) in
+          let t = drop⇒Token v 0 (e + 1) (34 ∷ w) (front ∙ ap (λ (l : List ℕ). 34 ∷ (w ++ l)) (n ∙ sym d)) in
           inr (subst (λ (l : List ℕ). Token (34 ∷ w) v l) d t)
       by-end (inr (m, q)) =
           let d : drop (e + 1) v ≡ m = behind ∙ ap (λ (l : List ℕ). drop 1 l) q in
           let f : w ++ r ≡ (w ++ (34 ∷ [])) ++ drop (e + 1) v =
           ap (λ (l : List ℕ). w ++ l) (q ∙ ap (λ (l : List ℕ). 34 ∷ l) (sym d)) ∙ sym (append-assoc w (34 ∷ []) (drop (e + 1) v)) in
-          let t = token-made v 0 (e + 1) (34 ∷ (w ++ (34 ∷ []))) (front ∙ ap (λ (l : List ℕ). 34 ∷ l) f) in
-          inl (drop (e + 1) v, t, left-blank v (e + 1) left)
+          let t = drop⇒Token v 0 (e + 1) (34 ∷ (w ++ (34 ∷ []))) (front ∙ ap (λ (l : List ℕ). 34 ∷ l) f) in
+          inl (drop (e + 1) v, t, skipAt⇒Blanks v (e + 1) left)
 
   quoted-from : QuotedOf v (quotedFrom v at (quoteEnd at (drop at v)))
   unfolding quotedFrom
@@ -162,11 +162,11 @@ IsClass w = In w classes
 class-named : (w : List ℕ) → (className w ≡ Unfit) ⊎ IsClass w
 unfolding className
 class-named w =
-    pick-case P (same w (ascii "SBCS")) _ _ (λ e. inr (inl (same-is w (ascii "SBCS") e)))
-    (λ _. pick-case P (same w (ascii "MBCS")) _ _ (λ e. inr (inr (inl (same-is w (ascii "MBCS") e))))
-    (λ _. pick-case P (same w (ascii "DBCS")) _ _ (λ e. inr (inr (inr (inl (same-is w (ascii "DBCS") e)))))
+    pick-case P (same w (ascii "SBCS")) _ _ (λ e. inr (inl (same⇒≡ w (ascii "SBCS") e)))
+    (λ _. pick-case P (same w (ascii "MBCS")) _ _ (λ e. inr (inr (inl (same⇒≡ w (ascii "MBCS") e))))
+    (λ _. pick-case P (same w (ascii "DBCS")) _ _ (λ e. inr (inr (inr (inl (same⇒≡ w (ascii "DBCS") e)))))
     (λ _. pick-case P (same w (ascii "EBCDIC_STATEFUL")) _ _
-    (λ e. inr (inr (inr (inr (inl (same-is w (ascii "EBCDIC_STATEFUL") e)))))) (λ _. inl refl))))
+    (λ e. inr (inr (inr (inr (inl (same⇒≡ w (ascii "EBCDIC_STATEFUL") e)))))) (λ _. inl refl))))
   where
     P : Value → Type 0
     P x = (x ≡ Unfit) ⊎ IsClass w
@@ -204,16 +204,16 @@ module _ (v : List ℕ) where
   digit-reads : (d : ℕ) → SizeValue d v → digitIn v at ≡ d
   unfolding digitIn
   digit-reads d (some, few, (m, k, b)) =
-      let h : byteOf v at ≡ 48 + d = byte-here v at ((48 + d) ∷ m) (token-here ((48 + d) ∷ []) v m (digit-solid d) k v 0 refl) in
-      let l : length v ≤ skipAt v (at + 1) = blank-left v (at + 1) m (token-past ((48 + d) ∷ []) v m (digit-solid d) k v 0 refl) b in
+      let h : byteOf v at ≡ 48 + d = drop⇒byteOf v at ((48 + d) ∷ m) (Token⇒skipAt ((48 + d) ∷ []) v m (digit-solid d) k v 0 refl) in
+      let l : length v ≤ skipAt v (at + 1) = Blanks⇒skipAt v (at + 1) m (Token⇒past ((48 + d) ∷ []) v m (digit-solid d) k v 0 refl) b in
       let e : 48 + d - 48 ≡ d = omega arith in
       rw (h, le-ltb (48 + d) 49 (omega arith), le-leb (48 + d) 52 (omega arith), le-leb (length v) (skipAt v (at + 1)) l, e)
 
   digit-written : 49 ≤ byteOf v at → byteOf v at ≤ 52 → length v ≤ skipAt v (at + 1) → SizeValue (byteOf v at - 48) v
   digit-written low high left =
       let x : ℕ = 48 + (byteOf v at - 48) in
-      let t = token-made v 0 (at + 1) (x ∷ []) (at-byte v at (at + 1) x refl (omega arith) (λ e. omega arith)) in
-      (omega arith, omega arith, (drop (at + 1) v, t, left-blank v (at + 1) left))
+      let t = drop⇒Token v 0 (at + 1) (x ∷ []) (at-byte v at (at + 1) x refl (omega arith) (λ e. omega arith)) in
+      (omega arith, omega arith, (drop (at + 1) v, t, skipAt⇒Blanks v (at + 1) left))
 
   digit-cases : (digitIn v at ≡ 0) ⊎ SizeValue (digitIn v at) v
   unfolding digitIn
@@ -267,7 +267,7 @@ max-cases v = size-cases v maxIn Max refl max-of
 run-reads : (c v : List ℕ) → BytesValue c v → (e : ℕ) × (bytesAt v 0 ≡ series c false e) × (length v ≤ skipAt v e)
 run-reads c v (m, b, w) =
     let a = bytes-read v 0 c false v m b refl (other 92 (omega arith) (λ e. omega arith)) (other 43 (omega arith) (λ e. omega arith)) in
-    (a .0, a .1, blank-left v (a .0) m (a .2) w)
+    (a .0, a .1, Blanks⇒skipAt v (a .0) m (a .2) w)
   where
     other : (x : ℕ) → x < 256 → (x ≡ 35 → ⊥) → first (strip m) ≡ x → ⊥
     other x = closed-first x (strip m) (closes-strip m (inl w))
@@ -281,7 +281,7 @@ pub sub-reads : (c v : List ℕ) → SubcharValue c v → valueOf SubChar v ≡ 
 unfolding valueOf
 sub-reads c v (few, b) = let r = run-reads c v b in ap (subIn v) (r .1) ∙ sub-of v c (r .0) few (r .2)
 
-sub-by : (v : List ℕ) (x : Series) → RunOf v 0 x
+sub-by : (v : List ℕ) (x : ByteSeries) → RunOf v 0 x
     → (subIn v x ≡ Unfit) ⊎ ((c : List ℕ) × (subIn v x ≡ Sub (packed c) (length c)) × SubcharValue c v)
 unfolding subIn
 sub-by v broken h = inl refl
@@ -289,7 +289,7 @@ sub-by v (series l true e) h = inl refl
 sub-by v (series l false e) h =
     pick-case P (leb (length l) 4) _ _
     (λ a. pick-case P (leb (length v) (skipAt v e)) _ _
-    (λ b. inr (l, refl, (leb-true (length l) 4 a, (drop e v, h, left-blank v e (leb-true (length v) (skipAt v e) b)))))
+    (λ b. inr (l, refl, (leb-true (length l) 4 a, (drop e v, h, skipAt⇒Blanks v e (leb-true (length v) (skipAt v e) b)))))
     (λ _. inl refl)) (λ _. inl refl)
   where
     P : Value → Type 0
@@ -313,14 +313,14 @@ pub sub1-reads : (b : ℕ) (v : List ℕ) → BytesValue (b ∷ []) v → valueO
 unfolding valueOf
 sub1-reads b v t = let r = run-reads (b ∷ []) v t in ap (sub1Value v) (r .1) ∙ sub1-of v b (r .0) (r .2)
 
-sub1-by : (v : List ℕ) (x : Series) → RunOf v 0 x → (sub1Value v x ≡ Unfit) ⊎ ((b : ℕ) × (sub1Value v x ≡ Sub1 b) × BytesValue (b ∷ []) v)
+sub1-by : (v : List ℕ) (x : ByteSeries) → RunOf v 0 x → (sub1Value v x ≡ Unfit) ⊎ ((b : ℕ) × (sub1Value v x ≡ Sub1 b) × BytesValue (b ∷ []) v)
 unfolding sub1Value
 sub1-by v broken h = inl refl
 sub1-by v (series l true e) h = inl refl
 sub1-by v (series [] false e) h = absurd h
 sub1-by v (series (b ∷ []) false e) h =
     pick-case (λ (x : Value). (x ≡ Unfit) ⊎ ((y : ℕ) × (x ≡ Sub1 y) × BytesValue (y ∷ []) v)) (leb (length v) (skipAt v e)) _ _
-    (λ k. inr (b, ap Sub1 (packed-one b), (drop e v, h, left-blank v e (leb-true (length v) (skipAt v e) k)))) (λ _. inl refl)
+    (λ k. inr (b, ap Sub1 (packed-one b), (drop e v, h, skipAt⇒Blanks v e (leb-true (length v) (skipAt v e) k)))) (λ _. inl refl)
 sub1-by v (series (b ∷ d ∷ l) false e) h = inl (rw (lt-leb (length (b ∷ d ∷ l)) 1 (omega arith)))
 
 pub sub1-cases : (v : List ℕ) → (valueOf SubChar1 v ≡ Unfit) ⊎ ((b : ℕ) × (valueOf SubChar1 v ≡ Sub1 b) × BytesValue (b ∷ []) v)
@@ -331,8 +331,8 @@ sub1-cases v = sub1-by v (bytesAt v 0) (bytes-written v 0)
 byte-small : (high low v : ℕ) → Hex 0 (high ∷ low ∷ []) v → v < 256
 unfolding hexFrom
 byte-small high low v h =
-    let a = hex-all 0 (high ∷ low ∷ []) v h in
-    omega (arith, a .0, a .1 .0, hex-value 0 (high ∷ low ∷ []) v h)
+    let a = Hex⇒AllDigits 0 (high ∷ low ∷ []) v h in
+    omega (arith, a .0, a .1 .0, Hex⇒hexFrom 0 (high ∷ low ∷ []) v h)
 
 more-are : (c : List ℕ) (plus : Bool) (s r : List ℕ) → More Byte c plus s r → AllByte c
 unfolding AllByte
@@ -340,7 +340,7 @@ more-are [] plus s r h = tt
 more-are (v ∷ c) plus s r (inl (m, (high, low, k, t), h)) = (byte-small high low v k, more-are c plus m r h)
 more-are (v ∷ c) plus s r (inr (j, m, later, e, o, (high, low, k, t), h)) = (byte-small high low v k, more-are c later m r h)
 
-pub bytes-are : (c v : List ℕ) → BytesValue c v → AllByte c
+pub BytesValue⇒AllByte : (c v : List ℕ) → BytesValue c v → AllByte c
 unfolding AllByte
-bytes-are [] v (m, b, w) = absurd b
-bytes-are (x ∷ c) v (m, (k, (high, low, h, t), b), w) = (byte-small high low x h, more-are c false k m b)
+BytesValue⇒AllByte [] v (m, b, w) = absurd b
+BytesValue⇒AllByte (x ∷ c) v (m, (k, (high, low, h, t), b), w) = (byte-small high low x h, more-are c false k m b)

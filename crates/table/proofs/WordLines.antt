@@ -9,27 +9,30 @@ use lib.Dec.{eqb}
 use borrow.Author.Tests.{ne-eqb, eqb-false}
 use Rattle.lists.specs.Pick.{pick}
 use Rattle.lists.specs.Ascii.{ascii}
-use Rattle.lists.proofs.Laws.{both, both-left, both-right}
+use Rattle.lists.proofs.Laws.{and-yes, and-left, and-right}
 use Rattle.table.specs.Grammar.{Blanks, Token, CharmapLine, EndLine}
-use Rattle.table.specs.Text.{skipAt, begins, endsAt, isCharmap}
+use Rattle.table.specs.Text.{skipAt, endsAt, isCharmap}
+use Rattle.lists.specs.Strings.{begins}
 use Rattle.table.specs.Mapping.{isEnd}
-use Rattle.lists.proofs.Chains.{bar-first, bar-rest}
-use Rattle.table.proofs.Tokens.{strip, past, left-here, skip-here, strip-gap, gap-of, token-here, token-past, token-less, token-behind, token-bare, begins-yes, word-written, ends-closed, ends-written}
+use Rattle.lists.proofs.Chains.{unless-left, unless-right}
+use Rattle.table.proofs.Tokens.{strip, drop⇒skipAt, strip-gap, gap-of, Token⇒skipAt, Token⇒past, token-less, token-behind, token-bare, begins⇒Token, Closes⇒endsAt, endsAt⇒Closes}
+use Rattle.lists.proofs.Parts.{drop-+, drop⇒length}
+use Rattle.lists.proofs.Strings.{begins-++}
 
 -- CHARMAP from any place on
 pub charmap-reads : (s : List ℕ) (q : ℕ) (t : List ℕ) → drop q s ≡ t → CharmapLine t → isCharmap s (skipAt s q) ≡ true
 unfolding isCharmap
 charmap-reads s q t h (m, k, c) =
-    both (begins (ascii "CHARMAP") (drop (skipAt s q) s)) (endsAt s (skipAt s (skipAt s q + 7)))
-    (ap (begins (ascii "CHARMAP")) (token-here (ascii "CHARMAP") t m (refl, refl) k s q h) ∙ begins-yes (ascii "CHARMAP") m)
-    (ends-closed s (skipAt s q + 7) m (token-past (ascii "CHARMAP") t m (refl, refl) k s q h) c)
+    and-yes (begins (ascii "CHARMAP") (drop (skipAt s q) s)) (endsAt s (skipAt s (skipAt s q + 7)))
+    (ap (begins (ascii "CHARMAP")) (Token⇒skipAt (ascii "CHARMAP") t m (refl, refl) k s q h) ∙ begins-++ (ascii "CHARMAP") m)
+    (Closes⇒endsAt s (skipAt s q + 7) m (Token⇒past (ascii "CHARMAP") t m (refl, refl) k s q h) c)
 
 pub charmap-written : (s : List ℕ) (q : ℕ) → isCharmap s (skipAt s q) ≡ true → CharmapLine (drop q s)
 unfolding isCharmap
 charmap-written s q e =
-    let a = both-left (begins (ascii "CHARMAP") (drop (skipAt s q) s)) (endsAt s (skipAt s (skipAt s q + 7))) e in
-    let b = both-right (begins (ascii "CHARMAP") (drop (skipAt s q) s)) (endsAt s (skipAt s (skipAt s q + 7))) e in
-    (drop (skipAt s q + 7) s, word-written s q (ascii "CHARMAP") a, ends-written s (skipAt s q + 7) b)
+    let a = and-left (begins (ascii "CHARMAP") (drop (skipAt s q) s)) (endsAt s (skipAt s (skipAt s q + 7))) e in
+    let b = and-right (begins (ascii "CHARMAP") (drop (skipAt s q) s)) (endsAt s (skipAt s (skipAt s q + 7))) e in
+    (drop (skipAt s q + 7) s, begins⇒Token s q (ascii "CHARMAP") a, endsAt⇒Closes s (skipAt s q + 7) b)
 
 -- blanks before CHARMAP, more of them and none
 charmap-behind : (g t : List ℕ) → Blanks g → CharmapLine t → CharmapLine (g ++ t)
@@ -53,10 +56,10 @@ unfolding isEnd begins
 end-reads s q t h (b, m, k, g, c) =
     let p : ℕ = skipAt s q in
     let w : List ℕ = ascii "END" ++ (b ∷ []) in
-    let i : drop p s ≡ w ++ m = token-here w t m (refl, refl) k s q h in
-    let j : drop (p + 3) s ≡ b ∷ m = past s p 3 (w ++ m) i in
+    let i : drop p s ≡ w ++ m = Token⇒skipAt w t m (refl, refl) k s q h in
+    let j : drop (p + 3) s ≡ b ∷ m = drop-+ s p 3 (w ++ m) i in
     let n : skipAt s (p + 3) ≡ p + 3 → ⊥ = λ e.
-    let z : length (strip m) ≡ suc (length m) = ap length (sym (blank-skips b m g) ∙ sym (skip-here s (p + 3) (b ∷ m) j) ∙ ap (λ (x : ℕ). drop x s) e ∙ j) in
+    let z : length (strip m) ≡ suc (length m) = ap length (sym (blank-skips b m g) ∙ sym (drop⇒skipAt s (p + 3) (b ∷ m) j) ∙ ap (λ (x : ℕ). drop x s) e ∙ j) in
     omega (arith, z, strip-less m) in
     rw (i, ne-eqb (skipAt s (p + 3)) (p + 3) n) (charmap-reads s (p + 3) (b ∷ m) j (charmap-behind (b ∷ []) m g c))
 
@@ -64,19 +67,19 @@ pub end-written : (s : List ℕ) (q : ℕ) → isEnd s (skipAt s q) ≡ true →
 unfolding isEnd
 end-written s q e =
     let p : ℕ = skipAt s q in
-    let a = both-left (begins (ascii "END") (drop p s)) (pick (eqb (skipAt s (p + 3)) (p + 3)) false (isCharmap s (skipAt s (p + 3)))) e in
-    let b = both-right (begins (ascii "END") (drop p s)) (pick (eqb (skipAt s (p + 3)) (p + 3)) false (isCharmap s (skipAt s (p + 3)))) e in
-    let n = eqb-false (skipAt s (p + 3)) (p + 3) (bar-first (eqb (skipAt s (p + 3)) (p + 3)) (isCharmap s (skipAt s (p + 3))) b) in
-    let c = charmap-bare (drop (p + 3) s) (charmap-written s (p + 3) (bar-rest (eqb (skipAt s (p + 3)) (p + 3)) (isCharmap s (skipAt s (p + 3))) b)) in
+    let a = and-left (begins (ascii "END") (drop p s)) (pick (eqb (skipAt s (p + 3)) (p + 3)) false (isCharmap s (skipAt s (p + 3)))) e in
+    let b = and-right (begins (ascii "END") (drop p s)) (pick (eqb (skipAt s (p + 3)) (p + 3)) false (isCharmap s (skipAt s (p + 3)))) e in
+    let n = eqb-false (skipAt s (p + 3)) (p + 3) (unless-left (eqb (skipAt s (p + 3)) (p + 3)) (isCharmap s (skipAt s (p + 3))) b) in
+    let c = charmap-bare (drop (p + 3) s) (charmap-written s (p + 3) (unless-right (eqb (skipAt s (p + 3)) (p + 3)) (isCharmap s (skipAt s (p + 3))) b)) in
     let g = gap-of (drop (p + 3) s) in
-    by-gap (g .0) (g .1) (g .2) (word-written s q (ascii "END") a) c n
+    by-gap (g .0) (g .1) (g .2) (begins⇒Token s q (ascii "END") a) c n
   where
     by-gap : (w : List ℕ) → Blanks w → drop (skipAt s q + 3) s ≡ w ++ strip (drop (skipAt s q + 3) s) → Token (ascii "END") (drop q s) (drop (skipAt s q + 3) s)
         → CharmapLine (strip (drop (skipAt s q + 3) s)) → (skipAt s (skipAt s q + 3) ≡ skipAt s q + 3 → ⊥) → EndLine (drop q s)
     by-gap [] x d k c n =
         let p : ℕ = skipAt s q + 3 in
-        let z : length s - p ≡ length s - skipAt s p = left-here s p (strip (drop p s)) d ∙ sym (left-here s (skipAt s p) (strip (drop p s)) (skip-here s p (drop p s) refl)) in
-        let y : 1 ≤ length s - p = omega (arith, left-here s p (strip (drop p s)) d, charmap-long (strip (drop p s)) c) in
+        let z : length s - p ≡ length s - skipAt s p = drop⇒length s p (strip (drop p s)) d ∙ sym (drop⇒length s (skipAt s p) (strip (drop p s)) (drop⇒skipAt s p (drop p s) refl)) in
+        let y : 1 ≤ length s - p = omega (arith, drop⇒length s p (strip (drop p s)) d, charmap-long (strip (drop p s)) c) in
         absurd (n (omega arith))
     by-gap (b ∷ w) (x, xs) d k c n =
         let p : ℕ = skipAt s q + 3 in (

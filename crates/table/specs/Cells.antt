@@ -1,9 +1,9 @@
 -- A cell is what a state row says of a byte (document 01, 'State rows'). A row of a table has 256 of them.
 -- The number that stands for a cell in memory is given here alone.
 use Prim.Native.Nat.{ℕ, _+_, _-_}
-use mathlib.Core.Bool.{Bool, true}
+use mathlib.Core.Bool.{Bool}
 use lib.Dec.{leb, eqb}
-use Rattle.lists.specs.Pick.{pick}
+use Rattle.lists.specs.Pick.{if_then_else_, _or_}
 use Rattle.table.specs.declared.states.Step.{Step}
 use Rattle.table.specs.declared.states.Step.the-variants.{Illegal, Ends, Leads}
 
@@ -23,7 +23,7 @@ cellStep endsAny = Ends 2
 cellStep endsUnassigned = Ends 3
 cellStep (leads n) = Leads n
 
--- THE NUMBER OF A CELL IN MEMORY
+-- the number of a cell in memory
 abbrev pub cellNumber : Cell → ℕ
 cellNumber illegal = 0
 cellNumber ends = 1
@@ -31,10 +31,15 @@ cellNumber endsAny = 2
 cellNumber endsUnassigned = 3
 cellNumber (leads n) = 16 + n
 
--- and the cell of a number: illegal for those that are kept free
+-- the cell that a number stands for; the numbers 4 to 15 stand for none and read as illegal
 unfoldable pub cellIn : ℕ → Cell
-cellIn e = pick (leb 16 e) (leads (e - 16)) (pick (eqb e 1) ends (pick (eqb e 2) endsAny (pick (eqb e 3) endsUnassigned illegal)))
+cellIn e =
+    if leb 16 e then leads (e - 16) else
+    if eqb e 1 then ends else
+    if eqb e 2 then endsAny else
+    if eqb e 3 then endsUnassigned else
+    illegal
 
 -- a number that stands for a cell: 0 to 3, or from 16 on
 abbrev pub known : ℕ → Bool
-known e = pick (leb e 3) true (leb 16 e)
+known e = leb e 3 or leb 16 e

@@ -1,49 +1,57 @@
--- WHICH TEXTS ARE TABLES: document 01's 'Table text', 'State rows' and 'Mapping' as sentences. There is no reader in it: no place in a line, no order of tests.
--- A form `X .. s r` says that s is an X and then r; one with s alone, that s is an X to its end. Blanks stand before a token (`Token`) and at the end.
--- Contents: lines, tokens, lines of words, mapping lines, header lines, known keys and values, state rows, a text, numbers 10, 12, 14 and 15.
--- The loader takes just these, with these values. Each form: proofs/LinesRead, SeriesRead, MappingRead, HeaderRead, ValueRead, RowRead, RowWritten, FormsRead;
--- what rows say, and which entries 14 and 15 name: RowSays, RowEntries; whole texts: TextRead (`accepted-exactly`); the numbers: NumbersRead;
--- table K, and K with every liberty: TextCases.
-use Prim.Native.Nat.{ℕ, _+_, _*_, _<_, _≤_}
+-- WHICH TEXTS ARE TABLES: document 01's 'Table text', 'State rows' and 'Mapping' as sentences. There is no reader in
+-- it: no place in a line, no order of tests.
+-- A form `X .. s r` says that s is an X and then r; one with s alone, that s is an X to its end. Blanks stand before a
+-- token (`Token`) and at the end.
+-- Contents: lines, tokens, lines of words, mapping lines, header lines, known keys and values, state rows, a text,
+-- numbers 10, 12, 14, 15. The loader takes just these, with these values. Each form: proofs/LinesRead, SeriesRead,
+-- MappingRead, HeaderRead, ValueRead, RowRead, RowWritten, FormsRead; what rows say, and which entries 14 and 15 name:
+-- RowSays, RowEntries; whole texts: TextRead (`accepted-exactly`); the numbers: NumbersRead.
+-- Cases: proofs/TextCases.antt (table K, and K with every liberty)
+use Prim.Native.Nat.{ℕ, _+_, _*_, _<_, _≤_, _-_}
 use mathlib.Core.Path.{_≡_}
 use mathlib.Core.Logic.{_⊎_}
 use mathlib.Core.Bool.{Bool, true, false}
 use mathlib.Core.Option.{Option, none, some}
 use mathlib.Core.List.{List, [], _∷_, _++_, map, reverse}
 use lib.ListN.{length}
-use Rattle.lists.specs.Pick.{pick}
+use Rattle.lists.specs.Pick.{if_then_else_}
 use Rattle.lists.specs.Order.{All, In}
-use Rattle.lists.specs.Ascii.{ascii}
+use Rattle.lists.specs.Ascii.{ascii, byte}
 use Rattle.table.specs.Cells.{Cell, illegal}
-use Rattle.table.specs.Meaning.{Line, Table, same}
+use Rattle.table.specs.Meaning.{Line, Table}
+use Rattle.lists.specs.Strings.{same}
 use Rattle.table.specs.Row.{meaning, rowOf}
-use Rattle.table.specs.declared.header.Column.{Column}
-use Rattle.table.specs.declared.header.Key.{Key}
-use Rattle.table.specs.declared.header.Key.the-variants.{CodeSetName, CurMin, CurMax, ConvClass, SubChar, SubChar1, State, Base, Other}
 use Rattle.table.specs.declared.load.Phase.{Phase}
 use Rattle.table.specs.declared.load.Phase.the-variants.{Header, Mappings, Ended}
+use Rattle.table.specs.declared.row.Entry.{Entry}
+use Rattle.table.specs.declared.value.Key.{Key}
+use Rattle.table.specs.declared.value.Key.the-variants.{CodeSetName, CurMin, CurMax, ConvClass, SubChar}
+use Rattle.table.specs.declared.value.Key.the-variants.{SubChar1, State, Base, Other}
 
 -- ## Lines: they end in LF or CR LF, and the last may lack an end
 
 -- the last byte is no CR
 abbrev pub EndsPlain : List ℕ → Type 0
 EndsPlain [] = Unit {0}
-EndsPlain (b ∷ []) = b ≡ 13 → ⊥
+EndsPlain (b ∷ []) = b ≡ byte "\r" → ⊥
 EndsPlain (b ∷ d ∷ l) = EndsPlain (d ∷ l)
 
 -- s is the line l with its end, and then t
 abbrev pub WithEnd : List ℕ → List ℕ → List ℕ → Type 0
-WithEnd l s t = ((s ≡ l ++ (ascii "\n" ++ t)) × EndsPlain l) ⊎ ((s ≡ l ++ (ascii "\r\n" ++ t)) ⊎ ((s ≡ l) × (t ≡ []) × (1 ≤ length l)))
+WithEnd l s t =
+    ((s ≡ l ++ (ascii "\n" ++ t)) × EndsPlain l)
+    ⊎ ((s ≡ l ++ (ascii "\r\n" ++ t))
+    ⊎ ((s ≡ l) × (t ≡ []) × (1 ≤ length l)))
 
 -- the lines of a text: without LF in them, each with its end
 abbrev pub Lines : List (List ℕ) → List ℕ → Type 0
 Lines [] s = s ≡ []
-Lines (l ∷ ls) s = (t : List ℕ) × All (λ b. b ≡ 10 → ⊥) l × WithEnd l s t × Lines ls t
+Lines (l ∷ ls) s = (t : List ℕ) × All (λ b. b ≡ byte "\n" → ⊥) l × WithEnd l s t × Lines ls t
 
 -- ## Tokens: blanks and tabs may stand around them, and not inside
 
 abbrev pub Blanks : List ℕ → Type 0
-Blanks w = All (λ b. (b ≡ 32) ⊎ (b ≡ 9)) w
+Blanks w = All (λ b. (b ≡ byte " ") ⊎ (b ≡ byte "\t")) w
 
 -- the token w, maybe with blanks before it
 pub record Token (w s r : List ℕ) : Type 0 where
@@ -53,9 +61,11 @@ pub record Token (w s r : List ℕ) : Type 0 where
 
 -- h is the hexadecimal digit of value v: `0` to `9`, `A` to `F` or `a` to `f`
 abbrev pub Digit : ℕ → ℕ → Type 0
-Digit v h = ((v ≤ 9) × (h ≡ 48 + v)) ⊎ ((10 ≤ v) × (v ≤ 15) × ((h ≡ 55 + v) ⊎ (h ≡ 87 + v)))
+Digit v h =
+    ((v ≤ 9) × (h ≡ byte "0" + v))
+    ⊎ ((10 ≤ v) × (v ≤ 15) × ((h ≡ byte "A" + (v - 10)) ⊎ (h ≡ byte "a" + (v - 10))))
 
--- u is what the digits ds write behind the number n
+-- u is the number n followed by the digits ds
 abbrev pub Hex : ℕ → List ℕ → ℕ → Type 0
 Hex n [] u = u ≡ n
 Hex n (h ∷ ds) u = (v : ℕ) × Digit v h × Hex (n * 16 + v) ds u
@@ -99,7 +109,8 @@ abbrev pub More : (ℕ → List ℕ → List ℕ → Type 0) → List ℕ → Bo
 More X [] plus s r = (plus ≡ false) × (s ≡ r)
 More X (v ∷ vs) plus s r =
     ((m : List ℕ) × X v s m × More X vs plus m r)
-    ⊎ ((k : List ℕ) × (m : List ℕ) × (later : Bool) × (plus ≡ true) × Token (ascii "+") s k × X v k m × More X vs later m r)
+    ⊎ ((k : List ℕ) × (m : List ℕ) × (later : Bool) × (plus ≡ true)
+    × Token (ascii "+") s k × X v k m × More X vs later m r)
 
 -- one token X or more
 abbrev pub Series : (ℕ → List ℕ → List ℕ → Type 0) → List ℕ → Bool → List ℕ → List ℕ → Type 0
@@ -108,7 +119,7 @@ Series X (v ∷ vs) plus s r = (m : List ℕ) × X v s m × More X vs plus m r
 
 -- `|` and a digit 0 to 4; no indicator reads as `|0`
 abbrev pub Indicator : ℕ → List ℕ → List ℕ → Type 0
-Indicator d s r = ((d ≤ 4) × Token (ascii "|" ++ ((48 + d) ∷ [])) s r) ⊎ ((d ≡ 0) × (s ≡ r))
+Indicator d s r = ((d ≤ 4) × Token (ascii "|" ++ ((byte "0" + d) ∷ [])) s r) ⊎ ((d ≡ 0) × (s ≡ r))
 
 -- code points us, bytes c, an indicator d; joined, plus: whether a `+` stands among the code points, among the bytes
 pub record AnyMapping (us c : List ℕ) (joined plus : Bool) (d : ℕ) (s : List ℕ) : Type 0 where
@@ -124,9 +135,10 @@ pub record AnyMapping (us c : List ℕ) (joined plus : Bool) (d : ℕ) (s : List
 abbrev pub MappingLine : Line → List ℕ → Type 0
 MappingLine l s = (l .indicator ≤ 3) × AnyMapping (l .point ∷ []) (l .code) false false (l .indicator) s
 
--- what 14 names in a mapping: several code points (only between them may a `+` stand there), a `+` between bytes, indicator 4
-abbrev pub LaterMapping : List ℕ → Type 0
-LaterMapping s =
+-- what 14 names in a mapping: several code points (only between them may a `+` stand there), a `+` between bytes,
+-- indicator 4
+abbrev pub UnbuiltMapping : List ℕ → Type 0
+UnbuiltMapping s =
     (us : List ℕ) × (c : List ℕ) × (joined : Bool) × (plus : Bool) × (d : ℕ) × AnyMapping us c joined plus d s
     × ((2 ≤ length us) ⊎ ((plus ≡ true) ⊎ (d ≡ 4)))
 
@@ -134,25 +146,26 @@ LaterMapping s =
 
 -- a byte of a key: 21 to 7E without `<`, `>`, `#`
 pub record KeyByte (b : ℕ) : Type 0 where
-  pub from : 33 ≤ b
-  pub to : b < 127
-  pub no-open : b ≡ 60 → ⊥
-  pub no-close : b ≡ 62 → ⊥
-  pub no-hash : b ≡ 35 → ⊥
+  pub from : 0x21 ≤ b
+  pub to : b < 0x7f
+  pub no-open : b ≡ byte "<" → ⊥
+  pub no-close : b ≡ byte ">" → ⊥
+  pub no-hash : b ≡ byte "#" → ⊥
 
 -- a byte that may stand outside quotes: none from 80 up, no CR, no `#`; `"` opens quotes
 pub record Outside (b : ℕ) : Type 0 where
-  pub no-quote : b ≡ 34 → ⊥
-  pub no-hash : b ≡ 35 → ⊥
-  pub no-cr : b ≡ 13 → ⊥
+  pub no-quote : b ≡ byte "\"" → ⊥
+  pub no-hash : b ≡ byte "#" → ⊥
+  pub no-cr : b ≡ byte "\r" → ⊥
   pub low : b < 128
 
--- v is what stands before the comment r or the line's end, its first byte inside quotes or not; an open quote ends with its line
+-- v is what stands before the comment r or the line's end, its first byte inside quotes or not; an open quote ends with
+-- its line
 abbrev pub Content : Bool → List ℕ → List ℕ → Type 0
 Content true [] r = r ≡ []
 Content false [] r = (r ≡ []) ⊎ ((text : List ℕ) × (r ≡ ascii "#" ++ text))
-Content true (b ∷ v) r = ((b ≡ 34) × Content false v r) ⊎ ((b ≡ 34 → ⊥) × Content true v r)
-Content false (b ∷ v) r = ((b ≡ 34) × Content true v r) ⊎ (Outside b × Content false v r)
+Content true (b ∷ v) r = ((b ≡ byte "\"") × Content false v r) ⊎ ((b ≡ byte "\"" → ⊥) × Content true v r)
+Content false (b ∷ v) r = ((b ≡ byte "\"") × Content true v r) ⊎ (Outside b × Content false v r)
 
 -- a key and what follows it
 pub record Pair : Type 0 where
@@ -182,7 +195,7 @@ keyText Other = []
 -- w in quotes; an open quote ends with its line
 abbrev pub Quoted : List ℕ → List ℕ → Type 0
 Quoted w v =
-    All (λ b. b ≡ 34 → ⊥) w
+    All (λ b. b ≡ byte "\"" → ⊥) w
     × (((m : List ℕ) × Token (ascii "\"" ++ (w ++ ascii "\"")) v m × Blanks m) ⊎ Token (ascii "\"" ++ w) v [])
 
 -- code_set_name: quoted, not empty
@@ -191,7 +204,7 @@ NameValue v = (w : List ℕ) × (1 ≤ length w) × Quoted w v
 
 -- mb_cur_min, mb_cur_max: a digit 1 to 4
 abbrev pub SizeValue : ℕ → List ℕ → Type 0
-SizeValue d v = (1 ≤ d) × (d ≤ 4) × ((m : List ℕ) × Token ((48 + d) ∷ []) v m × Blanks m)
+SizeValue d v = (1 ≤ d) × (d ≤ 4) × ((m : List ℕ) × Token ((byte "0" + d) ∷ []) v m × Blanks m)
 
 -- uconv_class: quoted, one of these; the last two are under 14
 abbrev pub classes : List (List ℕ)
@@ -230,7 +243,7 @@ abbrev pub Kind : ℕ → List ℕ → List ℕ → Type 0
 Kind k s r = ((m : List ℕ) × Token (ascii ".") s m × Letter k m r) ⊎ ((k ≡ 0) × (s ≡ r))
 
 -- `number [- number] [: number] [. [letter]]`
-pub record Entry (e : Column) (s r : List ℕ) : Type 0 where
+pub record EntryText (e : Entry) (s r : List ℕ) : Type 0 where
   pub behind-lo : List ℕ
   pub behind-hi : List ℕ
   pub behind-next : List ℕ
@@ -239,57 +252,58 @@ pub record Entry (e : Column) (s r : List ℕ) : Type 0 where
   pub next : Next (e .next) behind-hi behind-next
   pub kind : Kind (e .kind) behind-next r
 
--- further entries, each behind a comma
-abbrev pub MoreEntries : List Column → List ℕ → Type 0
+-- further entries, each after a comma
+abbrev pub MoreEntries : List Entry → List ℕ → Type 0
 MoreEntries [] s = Blanks s
-MoreEntries (e ∷ es) s = (m : List ℕ) × (r : List ℕ) × Token (ascii ",") s m × Entry e m r × MoreEntries es r
+MoreEntries (e ∷ es) s = (m : List ℕ) × (r : List ℕ) × Token (ascii ",") s m × EntryText e m r × MoreEntries es r
 
 -- one entry or more
-abbrev pub Entries : List Column → List ℕ → Type 0
+abbrev pub Entries : List Entry → List ℕ → Type 0
 Entries [] s = ⊥
-Entries (e ∷ es) s = (r : List ℕ) × Entry e s r × MoreEntries es r
+Entries (e ∷ es) s = (r : List ℕ) × EntryText e s r × MoreEntries es r
 
 -- a word, a comma and entries
-abbrev pub Opened : List ℕ → List Column → List ℕ → Type 0
+abbrev pub Opened : List ℕ → List Entry → List ℕ → Type 0
 Opened w es s = (m : List ℕ) × (r : List ℕ) × Token w s m × Token (ascii ",") m r × Entries es r
 
 -- a list of entries, maybe empty; or 1 `initial`, 2 `surrogates` before entries
-abbrev pub RowValue : ℕ → List Column → List ℕ → Type 0
+abbrev pub RowValue : ℕ → List Entry → List ℕ → Type 0
 RowValue k es v =
     ((k ≡ 0) × (((es ≡ []) × Blanks v) ⊎ Entries es v))
     ⊎ (((k ≡ 1) × Opened (ascii "initial") es v) ⊎ ((k ≡ 2) × Opened (ascii "surrogates") es v))
 
 -- e names the byte b
-abbrev pub Names : Column → ℕ → Type 0
+abbrev pub Names : Entry → ℕ → Type 0
 Names e b = (e .lo ≤ b) × (b ≤ e .hi)
 
 -- v is what entries say of the byte b: the last one that names it decides (`meaning`); if none does, it is w
-abbrev pub SaysElse : Cell → List Column → ℕ → Cell → Type 0
+abbrev pub SaysElse : Cell → List Entry → ℕ → Cell → Type 0
 SaysElse w es b v =
     (All (λ e. Names e b → ⊥) es × (v ≡ w))
-    ⊎ ((before : List Column) × (e : Column) × (after : List Column) × (es ≡ before ++ (e ∷ after)) × Names e b × All (λ x. Names x b → ⊥) after × (v ≡ meaning e))
+    ⊎ ((before : List Entry) × (e : Entry) × (after : List Entry)
+    × (es ≡ before ++ (e ∷ after)) × Names e b × All (λ x. Names x b → ⊥) after × (v ≡ meaning e))
 
 -- a byte not named is illegal
-abbrev pub RowSays : List Column → ℕ → Cell → Type 0
+abbrev pub RowSays : List Entry → ℕ → Cell → Type 0
 RowSays es b v = SaysElse illegal es b v
 
 -- 14 of an entry: letter `s`, or an end with a next row other than 0
-abbrev pub LaterEntry : Column → Type 0
-LaterEntry e = (e .kind ≡ 5) ⊎ ((e .kind ≡ 0 → ⊥) × (e .next ≡ 256 → ⊥) × (e .next ≡ 0 → ⊥))
+abbrev pub UnbuiltEntry : Entry → Type 0
+UnbuiltEntry e = (e .kind ≡ 5) ⊎ ((e .kind ≡ 0 → ⊥) × (e .next ≡ 256 → ⊥) × (e .next ≡ 0 → ⊥))
 
 -- 15 of an entry: a falling range, or a next row over 7f
-abbrev pub OverEntry : Column → Type 0
-OverEntry e = (e .hi < e .lo) ⊎ ((e .next ≡ 256 → ⊥) × (127 < e .next))
+abbrev pub OverEntry : Entry → Type 0
+OverEntry e = (e .hi < e .lo) ⊎ ((e .next ≡ 256 → ⊥) × (0x7f < e .next))
 
 -- row n of a text: `initial` may open row 0, and 14 and 15 name none of its entries
-pub record StateRow (n : ℕ) (es : List Column) (v : List ℕ) : Type 0 where
+pub record StateRow (n : ℕ) (es : List Entry) (v : List ℕ) : Type 0 where
   pub word : ℕ
   pub form : RowValue word es v
   pub opening : (word ≡ 0) ⊎ ((word ≡ 1) × (n ≡ 0))
-  pub built : All (λ e. LaterEntry e → ⊥) es
+  pub built : All (λ e. UnbuiltEntry e → ⊥) es
   pub ranged : All (λ e. OverEntry e → ⊥) es
 
-abbrev pub StateRows : ℕ → List (List Column) → List (List ℕ) → Type 0
+abbrev pub StateRows : ℕ → List (List Entry) → List (List ℕ) → Type 0
 StateRows n [] [] = Unit {0}
 StateRows n [] (v ∷ vs) = ⊥
 StateRows n (es ∷ ess) [] = ⊥
@@ -300,7 +314,7 @@ StateRows n (es ∷ ess) (v ∷ vs) = StateRow n es v × StateRows (n + 1) ess v
 -- the values that a key is given, in order
 unfoldable pub valuesOf : Key → List Pair → List (List ℕ)
 valuesOf k [] = []
-valuesOf k (p ∷ ps) = let r = valuesOf k ps in pick (same (p .key) (keyText k)) (p .value ∷ r) r
+valuesOf k (p ∷ ps) = let r = valuesOf k ps in if same (p .key) (keyText k) then p .value ∷ r else r
 
 -- a key that is there once, with such a value
 abbrev pub Once : Key → (List ℕ → Type 0) → List Pair → Type 0
@@ -312,19 +326,20 @@ Perhaps none ps = valuesOf SubChar1 ps ≡ []
 Perhaps (some b) ps = Once SubChar1 (BytesValue (b ∷ [])) ps
 
 -- `0-ff`
-abbrev pub everyByte : Column
+abbrev pub everyByte : Entry
 everyByte = record { lo = 0; hi = 255; next = 256; kind = 0 }
 
--- the rows of a table, by its class: those of the state lines; SBCS without any has one row `0-ff`
-abbrev pub RowsAre : List ℕ → List (List Column) → List (List Cell) → Type 0
+-- the rows of a table, by its class: one for each state line; SBCS without state lines has one row `0-ff`
+abbrev pub RowsAre : List ℕ → List (List Entry) → List (List Cell) → Type 0
 RowsAre class ess rows =
-    ((1 ≤ length ess) × (rows ≡ map rowOf ess)) ⊎ ((ess ≡ []) × (class ≡ ascii "SBCS") × (rows ≡ rowOf (everyByte ∷ []) ∷ []))
+    ((1 ≤ length ess) × (rows ≡ map rowOf ess))
+    ⊎ ((ess ≡ []) × (class ≡ ascii "SBCS") × (rows ≡ rowOf (everyByte ∷ []) ∷ []))
 
 -- what a header says: required keys once each, class SBCS or MBCS, subchar1 or not, rows;
 -- icu:base does not stand there, and keys that are not named here are ignored
 pub record HeaderSays (ps : List Pair) (t : Table) : Type 0 where
   pub class : List ℕ
-  pub entries : List (List Column)
+  pub entries : List (List Entry)
   pub name : Once CodeSetName NameValue ps
   pub min : Once CurMin (SizeValue (t .min)) ps
   pub max : Once CurMax (SizeValue (t .max)) ps
@@ -340,10 +355,12 @@ pub record HeaderSays (ps : List Pair) (t : Table) : Type 0 where
 module _ {A : Type 0} (X : A → List ℕ → Type 0) where
   abbrev pub Listed : List A → List (List ℕ) → Type 0
   Listed xs [] = xs ≡ []
-  Listed xs (s ∷ ss) = (BlankLine s × Listed xs ss) ⊎ ((x : A) × (rest : List A) × (xs ≡ x ∷ rest) × X x s × Listed rest ss)
+  Listed xs (s ∷ ss) =
+      (BlankLine s × Listed xs ss)
+      ⊎ ((x : A) × (rest : List A) × (xs ≡ x ∷ rest) × X x s × Listed rest ss)
 
--- a text of the grammar, and the table that it writes: header, CHARMAP, mappings, END CHARMAP, and nothing else behind it.
--- A table's lines stand with the last one first
+-- a text of the grammar, and the table that it writes: header, CHARMAP, mappings, END CHARMAP, and nothing else behind
+-- it. A table's lines stand with the last one first
 pub record TableText (text : List ℕ) (t : Table) : Type 0 where
   pub pairs : List Pair
   pub header : List (List ℕ)
@@ -369,7 +386,7 @@ N10 Mappings s =
     × ((us c : List ℕ) (joined plus : Bool) (d : ℕ) → AnyMapping us c joined plus d s → ⊥)
 N10 Ended s = (BlankLine s → ⊥) × (CharmapLine s → ⊥)
 
--- a header line of which this holds
+-- a header line whose key and value satisfy P
 abbrev pub Keyed : (Pair → Type 0) → Phase → List ℕ → Type 0
 Keyed P Header s = (p : Pair) × KeyLine p s × P p
 Keyed P Mappings s = ⊥
@@ -383,7 +400,7 @@ Fit CurMax v = (d : ℕ) × SizeValue d v
 Fit ConvClass v = (w : List ℕ) × Quoted w v × In w classes
 Fit SubChar v = (c : List ℕ) × SubcharValue c v
 Fit SubChar1 v = (b : ℕ) × BytesValue (b ∷ []) v
-Fit State v = (k : ℕ) × (es : List Column) × RowValue k es v
+Fit State v = (k : ℕ) × (es : List Entry) × RowValue k es v
 Fit Base v = Unit {0}
 Fit Other v = Unit {0}
 
@@ -392,23 +409,27 @@ abbrev pub N12 : Pair → Type 0
 N12 p = (k : Key) × (p .key ≡ keyText k) × (Fit k (p .value) → ⊥)
 
 -- 14 of a row: `surrogates`, `initial` off row 0, such an entry
-abbrev pub LaterRow : ℕ → List ℕ → Type 0
-LaterRow n v = (k : ℕ) × (es : List Column) × RowValue k es v × ((k ≡ 2) ⊎ (((k ≡ 1) × (1 ≤ n)) ⊎ ((e : Column) × In e es × LaterEntry e)))
+abbrev pub UnbuiltRow : ℕ → List ℕ → Type 0
+UnbuiltRow n v =
+    (k : ℕ) × (es : List Entry) × RowValue k es v
+    × ((k ≡ 2) ⊎ (((k ≡ 1) × (1 ≤ n)) ⊎ ((e : Entry) × In e es × UnbuiltEntry e)))
 
 -- 14 of a header line: icu:base, class DBCS or EBCDIC_STATEFUL, such a row
-abbrev pub LaterPair : ℕ → Pair → Type 0
-LaterPair n p =
+abbrev pub UnbuiltPair : ℕ → Pair → Type 0
+UnbuiltPair n p =
     (p .key ≡ keyText Base)
     ⊎ (((p .key ≡ keyText ConvClass) × (Quoted (ascii "DBCS") (p .value) ⊎ Quoted (ascii "EBCDIC_STATEFUL") (p .value)))
-    ⊎ ((p .key ≡ keyText State) × LaterRow n (p .value)))
+    ⊎ ((p .key ≡ keyText State) × UnbuiltRow n (p .value)))
 
 -- 14: such a line, a second CHARMAP, such a mapping
 abbrev pub N14 : Phase → ℕ → List ℕ → Type 0
-N14 Header n s = Keyed (LaterPair n) Header s
-N14 Mappings n s = CharmapLine s ⊎ LaterMapping s
+N14 Header n s = Keyed (UnbuiltPair n) Header s
+N14 Mappings n s = CharmapLine s ⊎ UnbuiltMapping s
 N14 Ended n s = CharmapLine s
 
 -- 15: a row with such an entry, or one row more than the limit
 abbrev pub N15 : ℕ → ℕ → Pair → Type 0
 N15 limit n p =
-    (p .key ≡ keyText State) × ((k : ℕ) × (es : List Column) × RowValue k es (p .value) × (((e : Column) × In e es × OverEntry e) ⊎ (limit ≤ n)))
+    (p .key ≡ keyText State)
+    × ((k : ℕ) × (es : List Entry) × RowValue k es (p .value)
+    × (((e : Entry) × In e es × OverEntry e) ⊎ (limit ≤ n)))

@@ -4,13 +4,12 @@ pub mod States
 pub mod Codes
 pub mod Meaning
 pub mod Rules
-pub mod Entry
+pub mod Stored
 pub mod Slices
 pub mod Memory
 pub mod Keys
-pub mod Search
-pub mod Common
 pub mod Valid
+pub mod Forms
 pub mod Lookup
 pub mod Text
 pub mod Row
@@ -21,7 +20,4 @@ pub mod Load
 pub mod FirstLine
 pub mod Grammar
 pub mod TableK
-pub mod Progress
-pub mod CutShort
-pub mod LeadMarks
-pub mod Marks
+pub mod loops

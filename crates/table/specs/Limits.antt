@@ -1,4 +1,5 @@
--- The limits on tables: parameters of every definition that depends on them, with their values here alone.
+-- The limits on tables (document 01, T1 and number 2): parameters of every definition that depends on them, with their
+-- values here alone.
 use Prim.Native.Nat.{ℕ, _*_}
 
 pub record Limits : Type 0 where

@@ -1,16 +1,19 @@
--- What an accepted text means: rows, lines and the numbers of its header, with no word of memory.
+-- What an accepted text means (document 01, 'Table text'): rows, lines and the numbers of its header, with no word of
+-- memory; which lines read and write (`|0` to `|3`), and the line that reads a code or writes a code point.
 use Prim.Native.Nat.{ℕ, _+_, _*_}
-use mathlib.Core.Bool.{Bool, true, false}
+use mathlib.Core.Bool.{Bool}
 use mathlib.Core.Option.{Option}
 use mathlib.Core.List.{List, [], _∷_, _++_}
 use lib.ListN.{getD}
 use lib.Dec.{eqb}
-use Rattle.lists.specs.Pick.{pick}
+use Rattle.lists.specs.Pick.{_and_, _or_}
 use Rattle.lists.specs.Order.{firstOf}
+use Rattle.lists.specs.Strings.{same}
 use Rattle.table.specs.Cells.{Cell, illegal, cellStep}
 use Rattle.table.specs.States.{Rows}
 
--- a mapping line: code point, bytes, and the indicator's digit (0 both ways, 1 only from Unicode, 2 not mappable, 3 only to Unicode)
+-- a mapping line: code point, bytes, and the indicator's digit (0 both ways, 1 only from Unicode, 2 not mappable, 3
+-- only to Unicode)
 pub record Line : Type 0 where
   pub point : ℕ
   pub code : List ℕ
@@ -25,7 +28,7 @@ pub record Table : Type 0 where
   pub subchar : List ℕ
   pub subchar1 : Option ℕ
 
--- rows one behind the other
+-- the cells of all rows, row after row
 unfoldable pub flat : List (List Cell) → List Cell
 flat [] = []
 flat (r ∷ rs) = r ++ flat rs
@@ -37,30 +40,23 @@ stepsOn rows row b = cellStep (getD (flat rows) (row * 256 + b) illegal)
 abbrev pub stepsOf : Table → Rows
 stepsOf t = stepsOn (t .rows)
 
--- the same bytes
-unfoldable pub same : List ℕ → List ℕ → Bool
-same [] [] = true
-same [] (b ∷ t) = false
-same (a ∷ s) [] = false
-same (a ∷ s) (b ∷ t) = let r = same s t in pick (eqb a b) r false
-
 -- ## Lines by name: each test lists the digits that it means, and no other digit passes it
 
 -- `|0`, `|3`: its code is read towards Unicode
 abbrev pub isRead : Line → Bool
-isRead l = pick (eqb (l .indicator) 0) true (eqb (l .indicator) 3)
+isRead l = eqb (l .indicator) 0 or eqb (l .indicator) 3
 
 -- `|0`, `|1`, `|2`: it says what becomes of its code point
-abbrev pub isWritten : Line → Bool
-isWritten l = pick (eqb (l .indicator) 0) true (pick (eqb (l .indicator) 1) true (eqb (l .indicator) 2))
+abbrev pub decidesPoint : Line → Bool
+decidesPoint l = eqb (l .indicator) 0 or eqb (l .indicator) 1 or eqb (l .indicator) 2
 
 -- `|0`, `|1`, `|3`: it maps between its code point and a code
 abbrev pub hasCode : Line → Bool
-hasCode l = pick (eqb (l .indicator) 0) true (pick (eqb (l .indicator) 1) true (eqb (l .indicator) 3))
+hasCode l = eqb (l .indicator) 0 or eqb (l .indicator) 1 or eqb (l .indicator) 3
 
 -- `|0`, `|1`: its code is written for its code point
 abbrev pub writesCode : Line → Bool
-writesCode l = pick (eqb (l .indicator) 0) true (eqb (l .indicator) 1)
+writesCode l = eqb (l .indicator) 0 or eqb (l .indicator) 1
 
 -- `|2`: its code point is substituted by subchar1
 abbrev pub isSubstituted : Line → Bool
@@ -70,8 +66,8 @@ isSubstituted l = eqb (l .indicator) 2
 
 -- the line that reads a code
 abbrev pub reader : List ℕ → List Line → Option Line
-reader c ls = firstOf (λ l. pick (isRead l) (same (l .code) c) false) ls
+reader c ls = firstOf (λ l. isRead l and same (l .code) c) ls
 
 -- the line that says what becomes of a code point
 abbrev pub writer : ℕ → List Line → Option Line
-writer u ls = firstOf (λ l. pick (isWritten l) (eqb (l .point) u) false) ls
+writer u ls = firstOf (λ l. decidesPoint l and eqb (l .point) u) ls

@@ -1,48 +1,48 @@
--- The form: the record and the lent numbers of a table. One form for one meaning.
+-- The form in memory (document 01, 'What every table keeps': sorted for search from either side, zeros in the unused
+-- needed places, and a record; docs/MEMORY.md): the record and the lent numbers of a table. One form for one meaning.
+-- Contents: stored lines in both orders; the record; `Form`, the form of a table; `tableIn`, the table that memory
+-- holds; `Proper`, a table as a text can give it.
 use Prim.Native.Nat.{ℕ, zero, suc, _+_, _-_, _≤_, _<_}
 use mathlib.Core.Bool.{Bool}
 use mathlib.Core.Path.{_≡_}
 use mathlib.Core.Option.{Option, none, some}
-use mathlib.Core.List.{List, [], _∷_, _++_, map}
+use mathlib.Core.List.{List, [], _∷_, map}
 use lib.Dec.{eqb}
-use lib.ListN.{length, take, drop, getD, replicate}
-use Rattle.lists.specs.Pick.{pick}
+use lib.ListN.{length, take, drop, getD}
+use Rattle.lists.specs.Pick.{if_then_else_}
 use Rattle.lists.specs.Order.{sort, upFrom, All}
+use Rattle.lists.specs.Place.{filled}
 use Rattle.table.specs.Limits.{Limits, needed}
 use Rattle.table.specs.Cells.{Cell, cellNumber, cellIn}
 use Rattle.table.specs.Codes.{codeOf, bytesOf, AllByte}
 use Rattle.table.specs.Meaning.{Line, Table, flat}
-use Rattle.table.specs.Entry.{Entry, mk, bitsOf, infoOf, entryOf, lineIn, less, pointLess}
+use Rattle.table.specs.Stored.{Stored, mk, bitsOf, infoOf, storedOf, lineIn, less, pointLess}
 use Rattle.table.specs.Slices.{Slices}
 use Rattle.table.specs.declared.valid.Record.{Record}
 
--- the entry at an index of the two slices
-abbrev pub entryAt : List ℕ → List ℕ → ℕ → Entry
-entryAt bs is k = mk (getD bs k 0) (getD is k 0)
+-- the stored mapping at an index of the two slices
+abbrev pub storedAt : List ℕ → List ℕ → ℕ → Stored
+storedAt bs is k = mk (getD bs k 0) (getD is k 0)
 
-abbrev pub nth : List Entry → ℕ → Entry
-nth es k = entryAt (map bitsOf es) (map infoOf es) k
+abbrev pub nth : List Stored → ℕ → Stored
+nth es k = storedAt (map bitsOf es) (map infoOf es) k
 
--- two slices as a list of entries
-unfoldable pub entries : List ℕ → List ℕ → List Entry
-entries [] is = []
-entries (b ∷ bs) [] = []
-entries (b ∷ bs) (i ∷ is) = mk b i ∷ entries bs is
+-- two slices as a list of stored mappings
+unfoldable pub storedList : List ℕ → List ℕ → List Stored
+storedList [] is = []
+storedList (b ∷ bs) [] = []
+storedList (b ∷ bs) (i ∷ is) = mk b i ∷ storedList bs is
 
 -- the indices by the second order
-unfoldable pub indexLess : List Entry → ℕ → ℕ → Bool
+unfoldable pub indexLess : List Stored → ℕ → ℕ → Bool
 indexLess es i j = pointLess (nth es i) (nth es j)
 
-unfoldable pub orderOf : List Entry → List ℕ
+unfoldable pub orderOf : List Stored → List ℕ
 orderOf es = sort (indexLess es) (upFrom 0 (length es))
 
 -- the stored lines, rising by code
-abbrev pub sorted : List Line → List Entry
-sorted ls = sort less (map entryOf ls)
-
--- numbers, and zeros in the unused needed places
-unfoldable pub filled : ℕ → List ℕ → List ℕ
-filled limit xs = xs ++ replicate (limit - length xs) 0
+abbrev pub sorted : List Line → List Stored
+sorted ls = sort less (map storedOf ls)
 
 -- subchar1: 0 where none is given, else 1 + the byte
 abbrev pub sub1Of : Option ℕ → ℕ
@@ -50,7 +50,7 @@ sub1Of none = 0
 sub1Of (some b) = 1 + b
 
 abbrev pub sub1In : ℕ → Option ℕ
-sub1In n = pick (eqb n 0) none (some (n - 1))
+sub1In n = if eqb n 0 then none else some (n - 1)
 
 unfoldable pub recordOf : Table → Record
 recordOf t =
@@ -63,8 +63,8 @@ recordOf t =
       subchar1 = sub1Of (t .subchar1);
     }
 
--- the entries of the mapping slices
-pub record Stored (limit : ℕ) (es : List Entry) (codes infos order : List ℕ) : Type 0 where
+-- the mapping slices hold these, and zeros after them
+pub record SlicesHold (limit : ℕ) (es : List Stored) (codes infos order : List ℕ) : Type 0 where
   pub fits : length es ≤ limit
   pub codes-are : take limit codes ≡ filled limit (map bitsOf es)
   pub infos-are : take limit infos ≡ filled limit (map infoOf es)
@@ -74,11 +74,11 @@ pub record Stored (limit : ℕ) (es : List Entry) (codes infos order : List ℕ)
 abbrev pub numbersOf : List (List Cell) → List ℕ
 numbersOf rows = map cellNumber (flat rows)
 
--- THE FORM of a table; what lies past the needed places is anything
+-- THE FORM of a table; past the needed places anything may stand
 pub record Form (lim : Limits) (t : Table) (rec : Record) (m : Slices) : Type 0 where
   pub record-is : rec ≡ recordOf t
   pub states-are : take (needed lim) (m .states) ≡ filled (needed lim) (numbersOf (t .rows))
-  pub mappings-are : Stored (lim .mappings) (sorted (t .lines)) (m .codes) (m .infos) (m .order)
+  pub mappings-are : SlicesHold (lim .mappings) (sorted (t .lines)) (m .codes) (m .infos) (m .order)
 
 -- n rows of 256 cells from the front of a list
 unfoldable pub pieces : ℕ → List Cell → List (List Cell)
@@ -87,7 +87,7 @@ pieces (suc n) l = take 256 l ∷ pieces n (drop 256 l)
 
 -- the lines that a record and memory hold, whatever they are
 unfoldable pub linesIn : Record → List ℕ → List ℕ → List Line
-linesIn rec codes infos = map lineIn (entries (take (rec .mappings) codes) (take (rec .mappings) infos))
+linesIn rec codes infos = map lineIn (storedList (take (rec .mappings) codes) (take (rec .mappings) infos))
 
 -- the table that they hold
 unfoldable pub tableIn : Record → Slices → Table

@@ -1,4 +1,5 @@
--- What every table keeps: T1 to T9 of document 01, one definition each, over rows and lines alone.
+-- T1 to T9 (document 01, 'What every table keeps'), one definition each, over rows and lines alone. `Keeps` is a table
+-- that keeps them all.
 use Prim.Native.Nat.{ℕ}
 use mathlib.Core.Path.{_≡_}
 use mathlib.Core.Bool.{Bool, true, false}
@@ -6,35 +7,31 @@ use mathlib.Core.Option.{Option, none, some}
 use mathlib.Core.List.{List, [], _∷_}
 use lib.ListN.{length, getD}
 use lib.Dec.{ltb, leb, eqb}
-use Rattle.lists.specs.Pick.{pick}
+use Rattle.lists.specs.Pick.{if_then_else_, _and_, _or_, _implies_}
 use Rattle.table.specs.Limits.{Limits}
 use Rattle.table.specs.States.{Rows, endKind, isCode, within, leadsTo}
-use Rattle.table.specs.Meaning.{Line, Table, flat, stepsOf, same, isRead, isWritten, hasCode, writesCode, isSubstituted}
+use Rattle.table.specs.Meaning.{Line, Table, flat, stepsOf, isRead, decidesPoint, hasCode, writesCode}
+use Rattle.table.specs.Meaning.{isSubstituted}
+use Rattle.lists.specs.Strings.{same}
+use Rattle.lists.specs.Tests.{allOf, anyOf}
 use Rattle.table.specs.Cells.{Cell, cellStep}
-
--- f holds of every element
-unfoldable pub allOf : {A : Type 0} → (A → Bool) → List A → Bool
-allOf f [] = true
-allOf f (x ∷ l) = let r = allOf f l in pick (f x) r false
-
--- f holds of some element
-unfoldable pub anyOf : {A : Type 0} → (A → Bool) → List A → Bool
-anyOf f [] = false
-anyOf f (x ∷ l) = let r = anyOf f l in pick (f x) true r
 
 -- T1: at least one row, no more rows and mappings than the limits, mb_cur_min no larger than mb_cur_max, both 1 to 4
 abbrev pub t1Rows : Limits → ℕ → Bool
-t1Rows lim n = pick (leb 1 n) (leb n (lim .rows)) false
+t1Rows lim n = leb 1 n and leb n (lim .rows)
 
 abbrev pub t1Lines : Limits → ℕ → Bool
 t1Lines lim n = leb n (lim .mappings)
 
+abbrev pub t1Order : ℕ → ℕ → Bool
+t1Order min max = leb min max
+
 abbrev pub t1Sizes : ℕ → ℕ → Bool
-t1Sizes min max = pick (leb 1 min) (pick (leb min max) (leb max 4) false) false
+t1Sizes min max = leb 1 min and t1Order min max and leb max 4
 
 -- T2: a row led to exists (n rows there are) and is not row 0
 abbrev pub t2Row : ℕ → ℕ → Bool
-t2Row n m = pick (leb 1 m) (ltb m n) false
+t2Row n m = leb 1 m and ltb m n
 
 abbrev pub t2 : ℕ → List Cell → Bool
 t2 n cells = allOf (λ c. leadsTo (t2Row n) (cellStep c)) cells
@@ -51,27 +48,26 @@ abbrev pub t4Sub1 : Rows → Option ℕ → Bool
 t4Sub1 step none = true
 t4Sub1 step (some b) = isCode step 0 (b ∷ [])
 
--- T5: a `|0`, `|1` or `|3` line has a complete code, not ended by `u`, of mb_cur_min to mb_cur_max bytes; above U+FFFF it needs `p`
+-- T5: a `|0`, `|1` or `|3` line has a complete code, not ended by `u`, of mb_cur_min to mb_cur_max bytes; above U+FFFF
+-- it needs `p`
 abbrev pub t5Kind : ℕ → ℕ → Bool
-t5Kind point kind = pick (eqb kind 2) true (pick (eqb kind 1) (leb point 0xffff) false)
+t5Kind point kind = eqb kind 2 or (eqb kind 1 and leb point 0xffff)
 
 abbrev pub t5 : Rows → ℕ → ℕ → Line → Bool
 t5 step min max l =
-    pick (hasCode l)
-    (pick (leb min (length (l .code)))
-    (pick (leb (length (l .code)) max)
-    (t5Kind (l .point) (endKind step 0 (l .code))) false) false) true
+    hasCode l
+    implies (leb min (length (l .code))
+    and leb (length (l .code)) max
+    and t5Kind (l .point) (endKind step 0 (l .code)))
 
 -- T6: code points are at most U+10FFFF and no surrogate
 abbrev pub t6 : Line → Bool
-t6 l = pick (ltb (l .point) 0xd800) true (pick (ltb (l .point) 0xe000) false (leb (l .point) 0x10ffff))
+t6 l = ltb (l .point) 0xd800 or (if ltb (l .point) 0xe000 then false else leb (l .point) 0x10ffff)
 
 -- T7: a code of two or more bytes that begins 00 is not in a `|0` or `|1` line
 abbrev pub t7 : Line → Bool
 t7 l =
-    pick (writesCode l)
-    (pick (leb (length (l .code)) 1) true
-    (pick (eqb (getD (l .code) 0 0) 0) false true)) true
+    writesCode l implies (leb (length (l .code)) 1 or (if eqb (getD (l .code) 0 0) 0 then false else true))
 
 -- T8: a `|2` line has exactly the subchar1 byte
 abbrev pub t8Byte : Option ℕ → List ℕ → Bool
@@ -79,22 +75,21 @@ t8Byte none c = false
 t8Byte (some b) c = same c (b ∷ [])
 
 abbrev pub t8 : Option ℕ → Line → Bool
-t8 sub1 l = pick (isSubstituted l) (t8Byte sub1 (l .code)) true
+t8 sub1 l = isSubstituted l implies t8Byte sub1 (l .code)
 
 -- T9: no two lines of `|0` and `|3` share bytes
 abbrev pub sharesBytes : Line → Line → Bool
-sharesBytes a b = pick (isRead a) (pick (isRead b) (same (a .code) (b .code)) false) false
+sharesBytes a b = isRead a and isRead b and same (a .code) (b .code)
 
 -- T9: no two lines of `|0`, `|1` and `|2` share a code point
 abbrev pub sharesPoint : Line → Line → Bool
-sharesPoint a b = pick (isWritten a) (pick (isWritten b) (eqb (a .point) (b .point)) false) false
+sharesPoint a b = decidesPoint a and decidesPoint b and eqb (a .point) (b .point)
 
 unfoldable pub t9 : List Line → Bool
 t9 [] = true
 t9 (l ∷ ls) =
     let r = t9 ls in
-    pick (anyOf (λ x. sharesBytes x l) ls) false
-    (pick (anyOf (λ x. sharesPoint x l) ls) false r)
+    if anyOf (λ x. sharesBytes x l) ls then false else if anyOf (λ x. sharesPoint x l) ls then false else r
 
 -- a table that keeps them all
 pub record Keeps (lim : Limits) (t : Table) : Type 0 where

@@ -1,14 +1,17 @@
--- What state rows say of a byte string. Rows are known by what a row says of a byte: `step row byte`.
+-- What state rows say of a byte string (document 01, 'State rows'): a sequence cut by the states (`cutOf`), a complete
+-- code (`endKind`, `isCode`), and how often rows lead on (`within`, T3). Rows are known by what a row says of a byte:
+-- `step row byte`.
 use Prim.Native.Nat.{ℕ, zero, suc, _+_, _*_}
 use mathlib.Core.List.{List, [], _∷_}
 use mathlib.Core.Bool.{Bool, true, false}
 use lib.ListN.{getD}
 use lib.Dec.{eqb}
-use Rattle.lists.specs.Pick.{pick}
+use Rattle.lists.specs.Pick.{if_then_else_}
+use Rattle.lists.specs.Tests.{isEmpty, allBelow}
 use Rattle.table.specs.Cells.{cellStep, cellIn}
 use Rattle.table.specs.declared.states.Step.{Step}
 use Rattle.table.specs.declared.states.Step.the-variants.{Illegal, Ends, Leads}
-use Rattle.table.specs.declared.states.Halt.the-variants as halt
+use Rattle.table.specs.declared.states.CutStop.the-variants as cutStop
 use Rattle.table.specs.declared.states.Cut.{Cut}
 use Rattle.table.specs.declared.states.Cut.the-variants.{Complete, Stopped}
 
@@ -23,13 +26,14 @@ Rows = ℕ → ℕ → Step
 abbrev pub longest : ℕ
 longest = 4
 
--- the sequence at the front of s, which began in the row `first`: from a row on, with f bytes left of the longest and k read
+-- the sequence at the front of s, which began in the row `first`: from a row on, with f bytes left of the longest and k
+-- read
 unfoldable pub cutFrom : Rows → ℕ → ℕ → ℕ → ℕ → List ℕ → Cut
-cutFrom step first zero row k s = Stopped (halt.Illegal k)
-cutFrom step first (suc f) row k [] = Stopped halt.CutShort
+cutFrom step first zero row k s = Stopped (cutStop.Illegal k)
+cutFrom step first (suc f) row k [] = Stopped cutStop.CutShort
 cutFrom step first (suc f) row k (b ∷ s) =
     elim (step row b) [
-      | Illegal ↦ Stopped (halt.Illegal (k + 1))
+      | Illegal ↦ Stopped (cutStop.Illegal (k + 1))
       | Ends e ↦ Complete (k + 1) e
       | Leads n ↦ cutFrom step first f n (k + 1) s
     ]
@@ -38,10 +42,6 @@ cutFrom step first (suc f) row k (b ∷ s) =
 abbrev pub cutOf : Rows → ℕ → List ℕ → Cut
 cutOf step row s = cutFrom step row longest row 0 s
 
-abbrev pub isEmpty : List ℕ → Bool
-isEmpty [] = true
-isEmpty (b ∷ s) = false
-
 -- how the whole of s ends as a complete code (document 01's term) from a row on: 1, 2 or 3; 0 where s is none.
 -- It leads on at every byte but the last and ends there without being illegal.
 unfoldable pub endKind : Rows → ℕ → List ℕ → ℕ
@@ -49,22 +49,12 @@ endKind step row [] = 0
 endKind step row (b ∷ s) =
     elim (step row b) [
       | Illegal ↦ 0
-      | Ends e ↦ pick (isEmpty s) e 0
+      | Ends e ↦ if isEmpty s then e else 0
       | Leads n ↦ endKind step n s
     ]
 
 abbrev pub isCode : Rows → ℕ → List ℕ → Bool
-isCode step row s = pick (eqb (endKind step row s) 0) false true
-
--- f holds of every number below n
-unfoldable pub allBelow : (ℕ → Bool) → ℕ → Bool
-allBelow f zero = true
-allBelow f (suc n) = pick (allBelow f n) (f n) false
-
--- f holds of some number below n
-unfoldable pub someBelow : (ℕ → Bool) → ℕ → Bool
-someBelow f zero = false
-someBelow f (suc n) = pick (someBelow f n) true (f n)
+isCode step row s = if eqb (endKind step row s) 0 then false else true
 
 abbrev pub leadsTo : (ℕ → Bool) → Step → Bool
 leadsTo w Illegal = true

@@ -1,4 +1,6 @@
--- Table K of document 01, its text and what it means; and K written with every liberty that the grammar allows.
+-- Table K (document 01, 'Table K, and what it gives'), its text and what it means; and K written with every liberty
+-- that the grammar allows.
+-- Cases: proofs/TextCases.antt
 use Prim.Native.Nat.{ℕ}
 use mathlib.Core.Option.{none}
 use mathlib.Core.List.{List, [], _∷_, _++_}
@@ -27,7 +29,8 @@ kText =
     ++ ascii "<U2212> \\x81\\x7D |3\n"
     ++ ascii "END CHARMAP\n"
 
--- what K means: in row 0 the bytes 2d, 30, 33 and 3f end a code and 81 leads on to row 1, where 7c and 7d end it, and 80 as unassigned
+-- what K means: in row 0 the bytes 2d, 30, 33 and 3f end a code and 81 leads on to row 1, where 7c and 7d end it, and
+-- 80 as unassigned
 unfoldable pub tableK : Table
 tableK =
     record {
@@ -49,9 +52,10 @@ tableK =
       subchar1 = none;
     }
 
--- K again: tabs and no blanks around tokens, lines that end in CR LF, LF and not at all, comments (with bytes from 80 up) behind every kind of line,
--- blank lines, quotes that are open, that hold `#`, CR and bytes from 80 up, ignored keys with quotes, digits of either case, entries that later ones
--- overwrite, `initial`, a next row 0, no indicator, code points of two and of six digits
+-- K again: tabs and no blanks around tokens, lines that end in CR LF, LF and not at all, comments (with bytes from 80
+-- up) behind every kind of line, blank lines, quotes that are open, that hold `#`, CR and bytes from 80 up, ignored
+-- keys with quotes, digits of either case, entries that later ones overwrite, `initial`, a next row 0, no indicator,
+-- code points of two and of six digits
 unfoldable pub freeText : List ℕ
 freeText =
     ascii "# K, façon libre\r\n"

@@ -5,23 +5,25 @@ ghost use Prim.Native.Nat.{_<_, _≤_};
 ghost use lib.ListN.{getD, drop};
 ghost use Rattle.lists.specs.Pick.{pick};
 ghost use Rattle.table.specs.States.{stepAt};
-ghost use Rattle.table.specs.Codes.{codesOn, after, bytesOf, firstCode};
-ghost use Rattle.table.specs.Marks.{rowAlive, marksOf, isMarked, codesMarked, codesLed, nextMarked, putFirst, Starts};
+ghost use Rattle.table.specs.Codes.{codesOn, bytesOf, firstCode};
+ghost use Rattle.lists.specs.Strings.{after};
+ghost use Rattle.table.specs.loops.Marks.{rowProductive, marksOf, isMarked, codesMarked, codesLed, nextMarked};
+ghost use Rattle.table.specs.loops.Marks.{putFirst};
+ghost use Rattle.table.specs.loops.Marks.{Starts};
 use crate::states::Code;
+use crate::states::ROWS;
 use crate::states::Step;
+use crate::states::TOP;
 use crate::states::step_at;
 
-// The rows that a table can have, and their marks: one for each number of bytes to come, from none to three.
-const ROWS: usize = 16;
-
+// The marks of the rows: one for each row and each number of bytes to come, from none to three.
 const MARKS: usize = 64;
 
-// What one in the first of a code's four bytes is worth in its 32 bits.
-const TOP: u32 = 16777216;
-
-// The complete code that comes next, or that none does.
+// What comes after a position.
 pub enum Next {
+    // The next complete code. Go on from it.
     Found(Code),
+    // No complete code comes after the position: the list is at its end.
     Nothing,
 }
 
@@ -72,7 +74,9 @@ fn is_marked(marks: &[u8], left: u32, row: u16) -> bool
 
 // The mark of a row, by the marks of the rows that it leads on to with `left` bytes to come.
 fn row_mark(states: &[u16], marks: &[u8], left: u32, row: u16) -> u8
-    ensures { λ r. ⌜ r ≡ pick (rowAlive (stepAt (now (states .entry))) (isMarked (now (marks .entry)) left) row) 1 0 ⌝ }
+    ensures { λ r. ⌜ (let ends =
+        rowProductive (stepAt (now (states .entry))) (isMarked (now (marks .entry)) left) row in
+        r ≡ pick ends 1 0) ⌝ }
 {
     let mut b: u16 = 0;
     while b < 256 {
@@ -92,8 +96,8 @@ fn row_mark(states: &[u16], marks: &[u8], left: u32, row: u16) -> u8
     0
 }
 
-// The marks of the rows from which a code can still end, for each number of bytes to come.
-// Those for one byte more go by those for one less, so that each entry is read at most three times.
+// Marks the rows from which a code can still end, for each number of bytes to come. The marks for one byte more are
+// made from the marks for one byte less, so each cell is read at most three times.
 pub fn mark_rows(states: &[u16]) -> [u8; 64]
     ensures { λ r. ⌜ r ≡ marksOf (stepAt (now (states .entry))) ⌝ }
 {
@@ -108,11 +112,13 @@ pub fn mark_rows(states: &[u16]) -> [u8; 64]
     marks
 }
 
-// The first code of a row that begins with the byte b and comes after a position, which is the beginning or begins with b too.
-// `left` bytes may follow b.
+// The first code of a row after `pos` that starts with b; `pos` is the beginning or starts with b. `left` bytes may
+// follow b.
 fn next_on(states: &[u16], marks: &[u8], row: u16, b: u8, pos: Code, left: u32) -> Next
     requires { ⌜ (left < 4) × Starts b (bytesOf pos) ⌝ }
-    ensures { λ r. ⌜ r ≡ firstCode (after (bytesOf pos) (codesOn (codesLed (now (marks .entry)) (stepAt (now (states .entry))) left) b (stepAt (now (states .entry)) row b))) ⌝ }
+    ensures { λ r. ⌜ (let step = stepAt (now (states .entry)) in
+        let codes = codesOn (codesLed (now (marks .entry)) step left) b (step row b) in
+        r ≡ firstCode (after (bytesOf pos) codes)) ⌝ }
 {
     match step_at(states, row, b) {
         Step::Illegal => Next::Nothing,
@@ -137,7 +143,8 @@ fn next_on(states: &[u16], marks: &[u8], row: u16, b: u8, pos: Code, left: u32) 
 // The first code of at most `left` bytes of a row after a position, by recursion through the rows.
 fn next_in(states: &[u16], marks: &[u8], row: u16, pos: Code, left: u32) -> Next
     requires { ⌜ left ≤ 4 ⌝ }
-    ensures { λ r. ⌜ r ≡ firstCode (after (bytesOf pos) (codesMarked (now (marks .entry)) (stepAt (now (states .entry))) left row)) ⌝ }
+    ensures { λ r. ⌜ (let codes = codesMarked (now (marks .entry)) (stepAt (now (states .entry))) left row in
+        r ≡ firstCode (after (bytesOf pos) codes)) ⌝ }
 {
     if left == 0 {
         return Next::Nothing;
@@ -154,8 +161,9 @@ fn next_in(states: &[u16], marks: &[u8], row: u16, pos: Code, left: u32) -> Next
     Next::Nothing
 }
 
-// The first complete code after a position, from a row on, led on through marked rows alone. The position of no bytes is the beginning.
-// With the marks of `mark_rows` on valid memory no code is left out, and rows that never end a code are not walked.
+// The first complete code after a position, from a row on, through marked rows only. The position of no bytes is the
+// beginning. With the marks of `mark_rows` on valid memory no code is left out, and rows that never end a code are
+// not walked.
 pub fn next_code(states: &[u16], marks: &[u8], row: u16, pos: Code) -> Next
     ensures { λ r. ⌜ r ≡ nextMarked (now (marks .entry)) (stepAt (now (states .entry))) row (bytesOf pos) ⌝ }
 {

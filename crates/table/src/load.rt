@@ -1,8 +1,5 @@
 // Loading: a table's text into lent memory.
 use crate::header::Head;
-use crate::header::Key;
-use crate::header::Value;
-use crate::header::full_row;
 use crate::header::judge_key;
 use crate::header::read_line;
 use crate::header::take_value;
@@ -12,7 +9,7 @@ use crate::mapping::read_mapping;
 use crate::states::Code;
 use crate::states::NEEDED;
 use crate::states::states_ok;
-use crate::store::insert_entry;
+use crate::store::insert_stored;
 use crate::store::read_taken;
 use crate::store::write_taken;
 use crate::text::cut_line;
@@ -29,7 +26,6 @@ ghost use mathlib.Core.List.{List, [], _∷_, _++_};
 ghost use Prim.Native.Nat.{ℕ, _+_, _-_, _*_, _≤_, _<_};
 ghost use lib.Dec.{leb};
 ghost use lib.ListN.{length, take, drop, replicate};
-ghost use Rattle.lists.specs.Pick.{pick};
 ghost use Rattle.lists.specs.Order.{insert};
 ghost use Rattle.table.specs.Limits.{limits, needed};
 ghost use Rattle.table.specs.Cells.{Cell};
@@ -37,23 +33,35 @@ ghost use Rattle.table.specs.States.{stepAt};
 ghost use Rattle.table.specs.Codes.{packed, AllByte};
 ghost use Rattle.table.specs.Meaning.{Line};
 ghost use Rattle.table.specs.Rules.{t5};
-ghost use Rattle.table.specs.Entry.{mk, extraIn, rankOf, less};
-ghost use Rattle.table.specs.Slices.{Slices, slices};
-ghost use Rattle.table.specs.Memory.{entries};
-ghost use Rattle.table.specs.Search.{readTaken, writeTaken};
-ghost use Rattle.table.specs.Valid.{Kept};
-ghost use Rattle.table.specs.Header.{InRange};
-ghost use Rattle.table.specs.Numbers.{numberOf, answerNumber, n13, n16, n20, n22, n23, cond, lowest, rowsAt, keyConditions, charmapConditions, mappingConditions};
-ghost use Rattle.table.specs.Load.{judged, reading, keep, keepRow, lineAs, stepOf, refused, read, loadOf, Small, loadedAs, givenNumber, loadedBy, leftBy, statesOf, codesOf, infosOf, orderedOf, given, leftIn};
-ghost use Rattle.table.specs.Progress.{Lent, keysIn, emptyHead, headAt, ProperHead, Holding, Held, Beyond, Taken};
-ghost use Rattle.table.specs.declared.load.Refusal.the-variants.{NoScalar, NoSuchCode, LeadingZero, NoSubchar1, BytesTaken, PointTaken, TooMany};
+ghost use Rattle.table.specs.Stored.{mk, extraIn, rankOf, less};
+ghost use Rattle.table.specs.Slices.{Slices, slices, Lent};
+ghost use Rattle.table.specs.Memory.{storedList};
+ghost use Rattle.table.specs.loops.Search.{readTaken, writeTaken, Kept};
+ghost use Rattle.table.specs.loops.Ranges.{InRange};
+ghost use Rattle.table.specs.Numbers.{refusalNumber, answerNumber, n1, n13, n16, n20, n22, n23, cond, lowest};
+ghost use Rattle.table.specs.Numbers.{rowsAt, keyConditions, charmapConditions, mappingConditions};
+ghost use Rattle.table.specs.Load.{judged, reading, keepValue, keepRow, lineAs, lineStep, refused, read, loadOf};
+ghost use Rattle.table.specs.Load.{loadedAs, givenNumber, loadedBy, leftBy, statesOf, codesOf, infosOf};
+ghost use Rattle.table.specs.Load.{orderedOf, given, leftIn};
+ghost use Rattle.table.specs.loops.Progress.{keysIn, emptyHead, headAt, ProperHead, Holding, Held, Beyond};
+ghost use Rattle.table.specs.loops.Progress.{StepTaken};
+ghost use Rattle.table.specs.loops.Progress.{recordIn};
+ghost use Rattle.table.specs.declared.load.Refusal.the-variants.{NoScalar, NoSuchCode, LeadingZero, NoSubchar1};
+ghost use Rattle.table.specs.declared.load.Refusal.the-variants.{BytesTaken, PointTaken, TooMany};
 ghost use Rattle.table.specs.declared.load.Verdict.the-variants.{Fine, Refuse};
 ghost use Rattle.table.specs.declared.load.Phase.the-variants.{Header, Mappings, Ended};
+use crate::row::full_row;
+use crate::states::TOP;
+use crate::store::EXTRA;
+use crate::store::RANK;
+use crate::value::Key;
+use crate::value::Value;
+ghost use Rattle.lists.specs.Pick.{if_then_else_};
 
 // The longest text.
 const TEXT: usize = 1048576;
 
-// What is known before the first line.
+// The progress before the first line.
 const START: Progress = Progress {
     phase: Phase::Header,
     head: Head {
@@ -68,28 +76,45 @@ const START: Progress = Progress {
     mappings: 0,
 };
 
-// Why a text is refused.
+// Why a text is refused, by number, and what its author does next.
 pub enum Refusal {
+    // 1: a lent slice is too short. Lend 4,096 numbers for the states and 2,048 in each other slice.
     MemoryTooSmall,
+    // 2: the text has more than 1,048,576 bytes. Shorten it.
     TextTooLong,
+    // 10: the line has no form that may stand here. Mend its spelling or move it.
     NoForm,
+    // 11: a key that may come once comes again. Keep one of the two lines.
     KeyAgain,
+    // 12: the value is malformed for its key. Mend it.
     UnfitValue,
+    // 13: at CHARMAP a required key or row is absent. Add it to the header.
     KeyAbsent,
+    // 14: the line is well-formed but asks for what is not built. The table cannot be used.
     NotBuilt,
+    // 15: a falling range, a next row over 7f, or a 17th row. Mend the row.
     OutOfRange,
+    // 16: at CHARMAP the sizes, rows or substitution characters break T1 to T4. Mend the header.
     StatesBroken,
+    // 20: the code point is no scalar value. Mend the mapping.
     NoScalar,
+    // 21: the bytes are no code of the states that this code point may have. Mend the mapping or the rows.
     NoSuchCode,
+    // 22: a code of several bytes that starts with 00 is written. Mend the indicator.
     LeadingZero,
+    // 23: a `|2` line has other bytes than subchar1. Mend the one or the other.
     NoSubchar1,
+    // 24: an earlier line reads the same bytes. Keep one of the two.
     BytesTaken,
+    // 25: an earlier line writes the same code point. Keep one, or make it `|3`.
     PointTaken,
+    // 26: it is the 2,049th mapping. Split the table.
     TooMany,
+    // 27: the text ends before END CHARMAP. Look whether it was cut off.
     NoEnd,
 }
 
-// What the conditions at a line say.
+// The verdict of the conditions at a line.
 pub enum Verdict {
     Fine,
     Refuse(Refusal),
@@ -102,19 +127,23 @@ pub enum Phase {
     Ended,
 }
 
-// What loading answers: accepted with line 0, or refused with the line; a refusal's record is zeros.
+// What loading answers.
 pub enum Answer {
+    // The slices hold the table. Keep them and the record as they are, and hand them to every call.
     Accepted,
+    // The slices hold no table. Show the number and the line, mend the text and load it again.
     Refused(Refusal),
 }
 
+// The answer, the line that is refused (0 where there is none), and the record, which is zeros for a refused text.
 pub struct Loaded {
     pub answer: Answer,
     pub line: usize,
     pub table: Record,
 }
 
-// Between two lines: the part being read, the header so far (its rows are in the lent states), the count of mappings.
+// The progress between two lines: the part being read, the header so far (its rows are in the lent states), and the
+// count of mappings.
 pub struct Progress {
     pub phase: Phase,
     pub head: Head,
@@ -122,14 +151,14 @@ pub struct Progress {
 }
 
 // A line's outcome: the reading goes on, or the text is refused.
-pub enum Went {
+pub enum LineOutcome {
     On(Progress),
     Stop(Refusal),
 }
 
 // The number of a refusal in document 01.
 pub fn refusal_number(x: Refusal) -> u32
-    ensures { λ r. ⌜ r ≡ numberOf x ⌝ }
+    ensures { λ r. ⌜ r ≡ refusalNumber x ⌝ }
 {
     match x {
         Refusal::MemoryTooSmall => 1,
@@ -190,9 +219,13 @@ fn lacks_key(h: Head) -> bool
 // The header at CHARMAP: an SBCS table without rows gets the row `0-ff`.
 fn default_row(h: Head, states: &mut [u16]) -> Head
     requires { ⌜ ProperHead h × (h .rows ≤ limits .rows) × (needed limits ≤ length (now states)) ⌝ }
-    ensures { λ r. ⌜ ((rows : List (List Cell)) (codes infos order : List ℕ) → Holding limits h 0 rows [] (slices (now (states .entry)) codes infos order)
-        → (r ≡ headAt h (rowsAt (keysIn h) rows)) × Holding limits (headAt h (rowsAt (keysIn h) rows)) 0 (rowsAt (keysIn h) rows) [] (slices (now (states .exit)) codes infos order))
-        × ProperHead r × (r .rows ≤ limits .rows) × (drop (needed limits) (now (states .exit)) ≡ drop (needed limits) (now (states .entry))) ⌝ }
+    ensures { λ r. ⌜ ((rows : List (List Cell)) (codes infos order : List ℕ)
+        → Holding limits h 0 rows [] (slices (now (states .entry)) codes infos order)
+        → let all = rowsAt (keysIn h) rows in
+        (r ≡ headAt h all)
+        × Holding limits (headAt h all) 0 all [] (slices (now (states .exit)) codes infos order))
+        × ProperHead r × (r .rows ≤ limits .rows)
+        × (drop (needed limits) (now (states .exit)) ≡ drop (needed limits) (now (states .entry))) ⌝ }
 {
     if h.class == 1 {
         if h.rows == 0 {
@@ -205,63 +238,87 @@ fn default_row(h: Head, states: &mut [u16]) -> Head
     h
 }
 
+// The record of a header and a count of mappings.
+fn record_of(h: Head, n: u32) -> Record
+    ensures { λ r. ⌜ r ≡ recordIn h n ⌝ }
+{
+    let sub = h.sub;
+    Record {
+        rows: h.rows,
+        mappings: n,
+        min: h.min,
+        max: h.max,
+        subchar: sub,
+        subchar1: h.sub1,
+    }
+}
+
 // 16 does not hold: the sizes are in order, the states keep T2 and T3, subchar and subchar1 keep T4.
 fn keeps_states(h: Head, states: &[u16]) -> bool
     requires { ⌜ ProperHead h × (h .rows ≤ limits .rows) × (needed limits ≤ length (now states)) ⌝ }
-    ensures { λ r. ⌜ ((rows : List (List Cell)) (codes infos order : List ℕ) → Holding limits h 0 rows [] (slices (now (states .entry)) codes infos order) → r ≡ not (n16 (keysIn h) rows)) ⌝ }
+    ensures { λ r. ⌜ ((rows : List (List Cell)) (codes infos order : List ℕ)
+        → Holding limits h 0 rows [] (slices (now (states .entry)) codes infos order)
+        → r ≡ not (n16 (keysIn h) rows)) ⌝ }
 {
     if h.max < h.min {
         return false;
     }
     if states_ok(states, h.rows, h.max) {
-        let sub = h.sub;
-        let rec = Record {
-            rows: h.rows,
-            mappings: 0,
-            min: h.min,
-            max: h.max,
-            subchar: sub,
-            subchar1: h.sub1,
-        };
-        return keeps_t4(&states[..NEEDED], rec);
+        return keeps_t4(&states[..NEEDED], record_of(h, 0));
     }
     false
 }
 
 // Reads the line CHARMAP.
-fn take_charmap(h: Head, states: &mut [u16]) -> Went
+fn take_charmap(h: Head, states: &mut [u16]) -> LineOutcome
     requires { ⌜ ProperHead h × (h .rows ≤ limits .rows) × (needed limits ≤ length (now states)) ⌝ }
-    ensures { λ r. ⌜ ((rows : List (List Cell)) (codes infos order : List ℕ) → Holding limits h 0 rows [] (slices (now (states .entry)) codes infos order)
-        → Taken limits (judged (lowest (charmapConditions (keysIn h) rows)) (reading Mappings (keysIn h) (rowsAt (keysIn h) rows) [])) r (slices (now (states .exit)) codes infos order))
+    ensures { λ r. ⌜ ((rows : List (List Cell)) (codes infos order : List ℕ)
+        → Holding limits h 0 rows [] (slices (now (states .entry)) codes infos order)
+        → let next = reading Mappings (keysIn h) (rowsAt (keysIn h) rows) [] in
+        let went = judged (lowest (charmapConditions (keysIn h) rows)) next in
+        StepTaken limits went r (slices (now (states .exit)) codes infos order))
         × (drop (needed limits) (now (states .exit)) ≡ drop (needed limits) (now (states .entry))) ⌝ }
 {
     if lacks_key(h) {
-        return Went::Stop(Refusal::KeyAbsent);
+        return LineOutcome::Stop(Refusal::KeyAbsent);
     }
     let g = default_row(h, states);
     if keeps_states(g, states) {
-        return Went::On(Progress {
+        return LineOutcome::On(Progress {
             phase: Phase::Mappings,
             head: g,
             mappings: 0,
         });
     }
-    Went::Stop(Refusal::StatesBroken)
+    LineOutcome::Stop(Refusal::StatesBroken)
 }
 
 // Reads the line of a key.
-fn take_key(h: Head, k: Key, v: Value, line: &[u8], q: usize, e: usize, states: &mut [u16]) -> Went
-    requires { ⌜ (q ≤ e) × (e ≤ length (now line)) × InRange v × (h .rows ≤ limits .rows) × (needed limits ≤ length (now states)) × ProperHead h ⌝ }
-    ensures { λ r. ⌜ ((rows : List (List Cell)) (codes infos order : List ℕ) → Holding limits h 0 rows [] (slices (now (states .entry)) codes infos order)
-        → Taken limits (judged (lowest (keyConditions limits (keysIn h) (length rows) k v)) (reading Header (keep (keysIn h) v) (keepRow v (take (e - q) (drop q (now (line .entry)))) rows) [])) r (slices (now (states .exit)) codes infos order))
+fn take_key(
+    h: Head,
+    k: Key,
+    v: Value,
+    line: &[u8],
+    q: usize,
+    e: usize,
+    states: &mut [u16],
+) -> LineOutcome
+    requires { ⌜ (q ≤ e) × (e ≤ length (now line)) × InRange v
+        × (h .rows ≤ limits .rows) × (needed limits ≤ length (now states)) × ProperHead h ⌝ }
+    ensures { λ r. ⌜ ((rows : List (List Cell)) (codes infos order : List ℕ)
+        → Holding limits h 0 rows [] (slices (now (states .entry)) codes infos order)
+        → let text = take (e - q) (drop q (now (line .entry))) in
+        let next = reading Header (keepValue (keysIn h) v) (keepRow v text rows) [] in
+        let went = judged (lowest (keyConditions limits (keysIn h) (length rows) k v)) next in
+        StepTaken limits went r (slices (now (states .exit)) codes infos order))
         × (drop (needed limits) (now (states .exit)) ≡ drop (needed limits) (now (states .entry))) ⌝ }
 {
     let x = judge_key(h, k, v);
     match x {
-        Verdict::Refuse(y) => Went::Stop(y),
+        Verdict::Refuse(y) => LineOutcome::Stop(y),
         Verdict::Fine => {
             let g = take_value(h, v, line, q, e, states);
-            Went::On(Progress {
+            LineOutcome::On(Progress {
                 phase: Phase::Header,
                 head: g,
                 mappings: 0,
@@ -271,22 +328,24 @@ fn take_key(h: Head, k: Key, v: Value, line: &[u8], q: usize, e: usize, states: 
 }
 
 // Reads a line before CHARMAP.
-fn take_header(h: Head, line: &[u8], states: &mut [u16]) -> Went
+fn take_header(h: Head, line: &[u8], states: &mut [u16]) -> LineOutcome
     requires { ⌜ ProperHead h × (h .rows ≤ limits .rows) × (needed limits ≤ length (now states)) ⌝ }
-    ensures { λ r. ⌜ ((rows : List (List Cell)) (codes infos order : List ℕ) → Holding limits h 0 rows [] (slices (now (states .entry)) codes infos order)
-        → Taken limits (stepOf lowest limits (reading Header (keysIn h) rows []) (now (line .entry))) r (slices (now (states .exit)) codes infos order))
+    ensures { λ r. ⌜ ((rows : List (List Cell)) (codes infos order : List ℕ)
+        → Holding limits h 0 rows [] (slices (now (states .entry)) codes infos order)
+        → let went = lineStep lowest limits (reading Header (keysIn h) rows []) (now (line .entry)) in
+        StepTaken limits went r (slices (now (states .exit)) codes infos order))
         × (drop (needed limits) (now (states .exit)) ≡ drop (needed limits) (now (states .entry))) ⌝ }
 {
     let l = read_line(line);
     match l {
-        crate::header::Line::NoForm => Went::Stop(Refusal::NoForm),
-        crate::header::Line::Blank => Went::On(Progress {
+        crate::header::HeaderLine::NoForm => LineOutcome::Stop(Refusal::NoForm),
+        crate::header::HeaderLine::Blank => LineOutcome::On(Progress {
             phase: Phase::Header,
             head: h,
             mappings: 0,
         }),
-        crate::header::Line::Charmap => take_charmap(h, states),
-        crate::header::Line::Known(k, v, q, e) => take_key(h, k, v, line, q, e, states),
+        crate::header::HeaderLine::Charmap => take_charmap(h, states),
+        crate::header::HeaderLine::Known(k, v, q, e) => take_key(h, k, v, line, q, e, states),
     }
 }
 
@@ -294,8 +353,12 @@ fn take_header(h: Head, line: &[u8], states: &mut [u16]) -> Went
 fn judge_mapping(h: Head, states: &[u16], u: u32, bits: u32, len: usize, d: u32) -> Verdict
     requires { ⌜ (h .max ≤ 4) × (needed limits ≤ length (now states)) × (1 ≤ len) × (d ≤ 3) ⌝ }
     ensures { λ r. ⌜ ((c : List ℕ) → AllByte c → bits ≡ packed c → len ≡ length c
-        → r ≡ lowest (cond NoScalar (n20 (lineAs u c d)) ∷ cond NoSuchCode (not (t5 (stepAt (take (needed limits) (now (states .entry)))) (h .min) (h .max) (lineAs u c d)))
-        ∷ cond LeadingZero (n22 (lineAs u c d)) ∷ cond NoSubchar1 (n23 (keysIn h) (lineAs u c d)) ∷ []))
+        → let step = stepAt (take (needed limits) (now (states .entry))) in
+        let new = lineAs u c d in
+        r ≡ lowest (cond NoScalar (n20 new)
+        ∷ cond NoSuchCode (not (t5 step (h .min) (h .max) new))
+        ∷ cond LeadingZero (n22 new)
+        ∷ cond NoSubchar1 (n23 (keysIn h) new) ∷ []))
         × (r ≡ Fine → (u < 2097152) × (len ≤ 4)) ⌝ }
 {
     if !keeps_t6(u) {
@@ -308,7 +371,7 @@ fn judge_mapping(h: Head, states: &[u16], u: u32, bits: u32, len: usize, d: u32)
         if len != 1 {
             return Verdict::Refuse(Refusal::NoSubchar1);
         }
-        if bits / 16777216 != h.sub1 - 1 {
+        if bits / TOP != h.sub1 - 1 {
             return Verdict::Refuse(Refusal::NoSubchar1);
         }
         return Verdict::Fine;
@@ -329,7 +392,7 @@ fn judge_mapping(h: Head, states: &[u16], u: u32, bits: u32, len: usize, d: u32)
     if len == 1 {
         return Verdict::Fine;
     }
-    if bits / 16777216 == 0 {
+    if bits / TOP == 0 {
         return Verdict::Refuse(Refusal::LeadingZero);
     }
     Verdict::Fine
@@ -340,21 +403,21 @@ fn info_of(u: u32, len: usize, d: u32) -> u32
     requires { ⌜ (u < 2097152) × (1 ≤ len) × (len ≤ 4) ⌝ }
     ensures { λ r. ⌜ (r ≡ u + 2097152 * rankOf d + 16777216 * (len - 1)) × (extraIn r < 4) ⌝ }
 {
-    let base = u + (len as u32 - 1) * 16777216;
+    let base = u + (len as u32 - 1) * EXTRA;
     if d == 0 {
         return base;
     }
     if d == 3 {
-        return base + 2097152;
+        return base + RANK;
     }
     if d == 1 {
-        return base + 4194304;
+        return base + 2 * RANK;
     }
-    base + 8388608
+    base + 4 * RANK
 }
 
-// 24 to 26; if none holds, the mapping is put into the slices.
-fn add_entry(
+// 24 to 26; if none holds, the mapping is inserted into the slices.
+fn add_stored(
     codes: &mut [u32],
     infos: &mut [u32],
     order: &mut [u32],
@@ -363,13 +426,18 @@ fn add_entry(
     i: u32,
 ) -> Verdict
     requires { ⌜ Kept (limits .mappings) n (now codes) (now infos) (now order) × (extraIn i < 4) ⌝ }
-    ensures { λ r. ⌜ (r ≡ pick (readTaken (mk c i) (entries (take n (now (codes .entry))) (take n (now (infos .entry))))) (Refuse BytesTaken)
-        (pick (writeTaken (mk c i) (entries (take n (now (codes .entry))) (take n (now (infos .entry))))) (Refuse PointTaken) (pick (leb (limits .mappings) n) (Refuse TooMany) Fine)))
-        × (r ≡ Fine → Kept (limits .mappings) (n + 1) (now (codes .exit)) (now (infos .exit)) (now (order .exit))
-        × (entries (take (n + 1) (now (codes .exit))) (take (n + 1) (now (infos .exit))) ≡ insert less (mk c i) (entries (take n (now (codes .entry))) (take n (now (infos .entry))))))
+    ensures { λ r. ⌜ (let old = storedList (take n (now (codes .entry))) (take n (now (infos .entry))) in
+        let all = storedList (take (n + 1) (now (codes .exit))) (take (n + 1) (now (infos .exit))) in
+        (r ≡ (if readTaken (mk c i) old then Refuse BytesTaken
+        else if writeTaken (mk c i) old then Refuse PointTaken
+        else if leb (limits .mappings) n then Refuse TooMany
+        else Fine))
+        × (r ≡ Fine
+        → Kept (limits .mappings) (n + 1) (now (codes .exit)) (now (infos .exit)) (now (order .exit))
+        × (all ≡ insert less (mk c i) old))
         × (drop (limits .mappings) (now (codes .exit)) ≡ drop (limits .mappings) (now (codes .entry)))
         × (drop (limits .mappings) (now (infos .exit)) ≡ drop (limits .mappings) (now (infos .entry)))
-        × (drop (limits .mappings) (now (order .exit)) ≡ drop (limits .mappings) (now (order .entry))) ⌝ }
+        × (drop (limits .mappings) (now (order .exit)) ≡ drop (limits .mappings) (now (order .entry)))) ⌝ }
 {
     if read_taken(codes, infos, n, c, i) {
         return Verdict::Refuse(Refusal::BytesTaken);
@@ -380,7 +448,7 @@ fn add_entry(
     if MAPPINGS <= n as usize {
         return Verdict::Refuse(Refusal::TooMany);
     }
-    insert_entry(codes, infos, order, n, c, i);
+    insert_stored(codes, infos, order, n, c, i);
     Verdict::Fine
 }
 
@@ -396,25 +464,28 @@ fn add_mapping(
     codes: &mut [u32],
     infos: &mut [u32],
     order: &mut [u32],
-) -> Went
+) -> LineOutcome
     requires { ⌜ (let m = slices (now states) (now codes) (now infos) (now order) in
         Lent limits m × Held limits h n m × (1 ≤ len) × (d ≤ 3)) ⌝ }
-    ensures { λ r. ⌜ (let m = slices (now (states .entry)) (now (codes .entry)) (now (infos .entry)) (now (order .entry)) in
+    ensures { λ r. ⌜ (let m =
+        slices (now (states .entry)) (now (codes .entry)) (now (infos .entry)) (now (order .entry)) in
         let m′ = slices (now (states .entry)) (now (codes .exit)) (now (infos .exit)) (now (order .exit)) in
         ((rows : List (List Cell)) (ls : List Line) (c : List ℕ) → Holding limits h n rows ls m
         → AllByte c → bits ≡ packed c → len ≡ length c
-        → Taken limits (judged (lowest (mappingConditions limits (keysIn h) rows ls (lineAs u c d))) (reading Mappings (keysIn h) rows (lineAs u c d ∷ ls))) r m′)
+        → let new = lineAs u c d in
+        let next = reading Mappings (keysIn h) rows (new ∷ ls) in
+        StepTaken limits (judged (lowest (mappingConditions limits (keysIn h) rows ls new)) next) r m′)
         × Beyond limits m m′) ⌝ }
 {
     let own = judge_mapping(h, states, u, bits, len, d);
     match own {
-        Verdict::Refuse(x) => Went::Stop(x),
+        Verdict::Refuse(x) => LineOutcome::Stop(x),
         Verdict::Fine => {
             let info = info_of(u, len, d);
-            let added = add_entry(codes, infos, order, n, bits, info);
+            let added = add_stored(codes, infos, order, n, bits, info);
             match added {
-                Verdict::Refuse(x) => Went::Stop(x),
-                Verdict::Fine => Went::On(Progress {
+                Verdict::Refuse(x) => LineOutcome::Stop(x),
+                Verdict::Fine => LineOutcome::On(Progress {
                     phase: Phase::Mappings,
                     head: h,
                     mappings: n + 1,
@@ -433,25 +504,26 @@ fn take_mapping(
     codes: &mut [u32],
     infos: &mut [u32],
     order: &mut [u32],
-) -> Went
+) -> LineOutcome
     requires { ⌜ (let m = slices (now states) (now codes) (now infos) (now order) in
         Lent limits m × Held limits h n m) ⌝ }
-    ensures { λ r. ⌜ (let m = slices (now (states .entry)) (now (codes .entry)) (now (infos .entry)) (now (order .entry)) in
+    ensures { λ r. ⌜ (let m =
+        slices (now (states .entry)) (now (codes .entry)) (now (infos .entry)) (now (order .entry)) in
         let m′ = slices (now (states .entry)) (now (codes .exit)) (now (infos .exit)) (now (order .exit)) in
         ((rows : List (List Cell)) (ls : List Line) → Holding limits h n rows ls m
-        → Taken limits (stepOf lowest limits (reading Mappings (keysIn h) rows ls) (now (line .entry))) r m′)
+        → StepTaken limits (lineStep lowest limits (reading Mappings (keysIn h) rows ls) (now (line .entry))) r m′)
         × Beyond limits m m′) ⌝ }
 {
     let l = read_mapping(line);
     match l {
-        Mapped::NoForm => Went::Stop(Refusal::NoForm),
-        Mapped::Reserved => Went::Stop(Refusal::NotBuilt),
-        Mapped::Blank => Went::On(Progress {
+        Mapped::NoForm => LineOutcome::Stop(Refusal::NoForm),
+        Mapped::Reserved => LineOutcome::Stop(Refusal::NotBuilt),
+        Mapped::Blank => LineOutcome::On(Progress {
             phase: Phase::Mappings,
             head: h,
             mappings: n,
         }),
-        Mapped::End => Went::On(Progress {
+        Mapped::End => LineOutcome::On(Progress {
             phase: Phase::Ended,
             head: h,
             mappings: n,
@@ -462,22 +534,22 @@ fn take_mapping(
     }
 }
 
-// Reads a line behind END CHARMAP.
-fn take_last(h: Head, n: u32, line: &[u8]) -> Went
+// Reads a line after END CHARMAP.
+fn take_last(h: Head, n: u32, line: &[u8]) -> LineOutcome
     ensures { λ r. ⌜ ((rows : List (List Cell)) (ls : List Line) (m : Slices) → Holding limits h n rows ls m
-        → Taken limits (stepOf lowest limits (reading Ended (keysIn h) rows ls) (now (line .entry))) r m) ⌝ }
+        → StepTaken limits (lineStep lowest limits (reading Ended (keysIn h) rows ls) (now (line .entry))) r m) ⌝ }
 {
     let l = read_last(line);
     match l {
-        Mapped::NoForm => Went::Stop(Refusal::NoForm),
-        Mapped::Reserved => Went::Stop(Refusal::NotBuilt),
-        Mapped::Blank => Went::On(Progress {
+        Mapped::NoForm => LineOutcome::Stop(Refusal::NoForm),
+        Mapped::Reserved => LineOutcome::Stop(Refusal::NotBuilt),
+        Mapped::Blank => LineOutcome::On(Progress {
             phase: Phase::Ended,
             head: h,
             mappings: n,
         }),
-        Mapped::End => Went::Stop(Refusal::NoForm),
-        Mapped::Line(_, _, _, _) => Went::Stop(Refusal::NoForm),
+        Mapped::End => LineOutcome::Stop(Refusal::NoForm),
+        Mapped::Line(_, _, _, _) => LineOutcome::Stop(Refusal::NoForm),
     }
 }
 
@@ -489,16 +561,18 @@ fn take_line(
     codes: &mut [u32],
     infos: &mut [u32],
     order: &mut [u32],
-) -> Went
+) -> LineOutcome
     requires { ⌜ (let m = slices (now states) (now codes) (now infos) (now order) in
         Lent limits m
         × Held limits (p .head) (p .mappings) m
         × (p .phase ≡ Header → p .mappings ≡ 0)) ⌝ }
-    ensures { λ r. ⌜ (let m = slices (now (states .entry)) (now (codes .entry)) (now (infos .entry)) (now (order .entry)) in
+    ensures { λ r. ⌜ (let m =
+        slices (now (states .entry)) (now (codes .entry)) (now (infos .entry)) (now (order .entry)) in
         let m′ = slices (now (states .exit)) (now (codes .exit)) (now (infos .exit)) (now (order .exit)) in
         ((rows : List (List Cell)) (ls : List Line)
         → Holding limits (p .head) (p .mappings) rows ls m
-        → Taken limits (stepOf lowest limits (reading (p .phase) (keysIn (p .head)) rows ls) (now (line .entry))) r m′)
+        → StepTaken limits
+        (lineStep lowest limits (reading (p .phase) (keysIn (p .head)) rows ls) (now (line .entry))) r m′)
         × Beyond limits m m′) ⌝ }
 {
     let h = p.head;
@@ -571,11 +645,11 @@ fn run(
         k += 1;
         let w = take_line(p, &text[at..stop], states, codes, infos, order);
         match w {
-            Went::Stop(x) => {
+            LineOutcome::Stop(x) => {
                 wipe(states, codes, infos, order);
                 return refuse(x, k);
             }
-            Went::On(q) => {
+            LineOutcome::On(q) => {
                 p = q;
                 at = next;
             }
@@ -587,24 +661,16 @@ fn run(
         return refuse(Refusal::NoEnd, k + 1);
     };
     let h = p.head;
-    let sub = h.sub;
     Loaded {
         answer: Answer::Accepted,
         line: 0,
-        table: Record {
-            rows: h.rows,
-            mappings: p.mappings,
-            min: h.min,
-            max: h.max,
-            subchar: sub,
-            subchar1: h.sub1,
-        },
+        table: record_of(h, p.mappings),
     }
 }
 
 // 1: a lent slice is too short.
 fn too_small(s: usize, c: usize, i: usize, o: usize) -> bool
-    ensures { λ r. ⌜ r ≡ Small limits s c i o ⌝ }
+    ensures { λ r. ⌜ r ≡ n1 limits s c i o ⌝ }
 {
     if s < NEEDED {
         return true;
@@ -618,8 +684,8 @@ fn too_small(s: usize, c: usize, i: usize, o: usize) -> bool
     o < MAPPINGS
 }
 
-// Reads a table's text into lent memory: 4,096 numbers for its states, 2,048 in each of the other slices, all of them set.
-// A refused text leaves zeros there; memory that is too small, or a text that is too long, leaves everything as it was.
+// Reads a table's text into lent memory: 4,096 numbers for its states, 2,048 in each of the other slices, all of them
+// set. A refused text leaves zeros there; if the memory is too small or the text too long, nothing is written.
 pub fn load(
     text: &[u8],
     states: &mut [u16],
@@ -627,11 +693,13 @@ pub fn load(
     infos: &mut [u32],
     order: &mut [u32],
 ) -> Loaded
-    ensures { λ r. ⌜ (let old = slices (now (states .entry)) (now (codes .entry)) (now (infos .entry)) (now (order .entry)) in
+    ensures { λ r. ⌜ (let old =
+        slices (now (states .entry)) (now (codes .entry)) (now (infos .entry)) (now (order .entry)) in
         let g = given limits (now (text .entry)) old in
         (r ≡ loadedBy g)
         × (answerNumber (r .answer) ≡ givenNumber g)
-        × (slices (now (states .exit)) (now (codes .exit)) (now (infos .exit)) (now (order .exit)) ≡ leftIn limits g old)) ⌝ }
+        × (slices (now (states .exit)) (now (codes .exit)) (now (infos .exit)) (now (order .exit))
+        ≡ leftIn limits g old)) ⌝ }
 {
     if too_small(states.len(), codes.len(), infos.len(), order.len()) {
         return refuse(Refusal::MemoryTooSmall, 0);

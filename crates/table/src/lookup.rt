@@ -1,9 +1,11 @@
 // Look-up in a table's lent memory, from either side: the line that reads a code, and the line that says what becomes
 // of a code point.
 use crate::states::Code;
+use crate::store::EXTRA;
+use crate::store::RANK;
 use crate::valid::Record;
 ghost use mathlib.Core.Path.{_≡_};
-ghost use Rattle.table.specs.Entry.{mk};
+ghost use Rattle.table.specs.Stored.{mk};
 ghost use Rattle.table.specs.Lookup.{useIn, mappingIn, CodeFound, PointFound};
 
 // How a line is used, by its indicator: `|0`, `|1`, `|2`, `|3`.
@@ -21,9 +23,11 @@ pub struct Mapping {
     pub used: Use,
 }
 
-// The line that was looked for, or that there is none.
+// What a look-up finds.
 pub enum Found {
+    // The stored line. Read its code point or its code, by `used`.
     Line(Mapping),
+    // No line matches. Substitute, or stop with 53.
     Nothing,
 }
 
@@ -48,12 +52,12 @@ fn mapping_of(bits: u32, info: u32) -> Mapping
     ensures { λ r. ⌜ r ≡ mappingIn (mk bits info) ⌝ }
 {
     Mapping {
-        point: info % 2097152,
+        point: info % RANK,
         code: Code {
             bits: bits,
-            len: info / 16777216 + 1,
+            len: info / EXTRA + 1,
         },
-        used: use_of(info / 2097152 % 8),
+        used: use_of(info / RANK % 8),
     }
 }
 
@@ -68,8 +72,8 @@ pub fn find_code(rec: Record, codes: &[u32], infos: &[u32], code: Code) -> Found
     Found::Nothing
 }
 
-// The same, with one look at a place before the search. On valid memory a line there that reads the code is the only one:
-// whatever the place, the answer is the same, and found sooner where the place is right.
+// The same, but it looks at one place before it searches. On valid memory only one line reads the code, so the answer
+// is the same whatever the place, and is found sooner if the place is right.
 pub fn find_code_near(rec: Record, codes: &[u32], infos: &[u32], code: Code, at: usize) -> Found
     ensures { λ r. ⌜ CodeFound rec (now (codes .entry)) (now (infos .entry)) code r ⌝ }
 {

@@ -1,6 +1,6 @@
-// The lines behind CHARMAP.
+// The lines after CHARMAP.
+use crate::text::ByteRun;
 use crate::text::Num;
-use crate::text::Run;
 use crate::text::bytes_run;
 use crate::text::ends;
 use crate::text::is_charmap;
@@ -12,10 +12,13 @@ use crate::text::word;
 ghost use mathlib.Core.Path.{_≡_};
 ghost use Prim.Native.Nat.{_≤_};
 ghost use lib.ListN.{length};
-ghost use Rattle.table.specs.Text.{joinAt, unicodeAt, Keeps};
-ghost use Rattle.table.specs.Mapping.{pointsMore, indicatorAt, mappingForm, isEnd, mappedOf, lastOf, codedForm, MappedFits};
+ghost use Rattle.table.specs.Text.{joinAt, unicodeAt};
+ghost use Rattle.table.specs.loops.Ranges.{NumAtMost, MappedFits};
+ghost use Rattle.table.specs.Mapping.{pointsMore, indicatorAt, mappingForm, isEnd, bodyLineOf, afterEndOf};
+ghost use Rattle.table.specs.loops.Coded.{codedLine};
 
-// A line behind CHARMAP, by form: a mapping has its code point, its code (the first four bytes), the count of bytes and the indicator.
+// A line after CHARMAP, by form. `Line`: a mapping, with its code point, its code (the first four bytes), the count of
+// bytes and the indicator. `Reserved`: well-formed, not built.
 pub enum Mapped {
     NoForm,
     Reserved,
@@ -24,11 +27,12 @@ pub enum Mapped {
     Line(u32, u32, usize, u32),
 }
 
-// The code points behind the first: 1 if there is one, and the place behind them.
+// The code points after the first: 1 if there is one, and the place after them.
 fn more_points(s: &[u8], at: usize) -> Num
     requires { ⌜ at ≤ length (now s) ⌝ }
-    ensures { λ r. ⌜ (r ≡ pointsMore (length (now (s .entry))) (now (s .entry)) 0 at (unicodeAt (now (s .entry)) (joinAt (now (s .entry)) at)))
-        × Keeps 1 r at (length (now (s .entry))) ⌝ }
+    ensures { λ r. ⌜ (let text = now (s .entry) in
+        (r ≡ pointsMore (length text) text 0 at (unicodeAt text (joinAt text at)))
+        × NumAtMost 1 r at (length text)) ⌝ }
 {
     let mut i = at;
     let mut several: u32 = 0;
@@ -57,7 +61,7 @@ fn indicator(s: &[u8], at: usize) -> Num
     if ends(s, at) {
         return Num::Val(0, at);
     }
-    if s[at] != 124 {
+    if s[at] != b'|' {
         return Num::Bad;
     }
     let b = at + 1;
@@ -65,10 +69,10 @@ fn indicator(s: &[u8], at: usize) -> Num
         return Num::Bad;
     }
     let d = s[b];
-    if d < 48 {
+    if d < b'0' {
         return Num::Bad;
     }
-    if d <= 52 {
+    if d <= b'4' {
         if ends(s, skip(s, at + 2)) {
             return Num::Val(d as u32 - 48, at + 2);
         }
@@ -78,7 +82,9 @@ fn indicator(s: &[u8], at: usize) -> Num
 
 // A line whose first token stands at p: code point, bytes, indicator.
 fn mapping_line(s: &[u8], p: usize) -> Mapped
-    ensures { λ r. ⌜ (r ≡ codedForm (mappingForm (now (s .entry)) (unicodeAt (now (s .entry)) p))) × MappedFits r (length (now (s .entry))) ⌝ }
+    ensures { λ r. ⌜ (let text = now (s .entry) in
+        (r ≡ codedLine (mappingForm text (unicodeAt text p)))
+        × MappedFits r (length text)) ⌝ }
 {
     let Num::Val(u, q) = unicode(s, p) else {
         return Mapped::NoForm;
@@ -86,7 +92,7 @@ fn mapping_line(s: &[u8], p: usize) -> Mapped
     let Num::Val(several, e) = more_points(s, q) else {
         return Mapped::NoForm;
     };
-    let Run::Bytes(bits, len, joined, t) = bytes_run(s, e) else {
+    let ByteRun::Bytes(bits, len, joined, t) = bytes_run(s, e) else {
         return Mapped::NoForm;
     };
     let Num::Val(d, _) = indicator(s, skip(s, t)) else {
@@ -104,7 +110,7 @@ fn mapping_line(s: &[u8], p: usize) -> Mapped
     Mapped::Line(u, bits, len, d)
 }
 
-// `END CHARMAP` stands here, alone.
+// Whether `END CHARMAP` stands at p, alone.
 fn is_end(s: &[u8], p: usize) -> bool
     requires { ⌜ p ≤ length (now s) ⌝ }
     ensures { λ r. ⌜ r ≡ isEnd (now (s .entry)) p ⌝ }
@@ -125,13 +131,13 @@ fn is_end(s: &[u8], p: usize) -> bool
 
 // A line between CHARMAP and END CHARMAP.
 pub(crate) fn read_mapping(s: &[u8]) -> Mapped
-    ensures { λ r. ⌜ (r ≡ codedForm (mappedOf (now (s .entry)))) × MappedFits r (length (now (s .entry))) ⌝ }
+    ensures { λ r. ⌜ (r ≡ codedLine (bodyLineOf (now (s .entry)))) × MappedFits r (length (now (s .entry))) ⌝ }
 {
     let p = skip(s, 0);
     if ends(s, p) {
         return Mapped::Blank;
     }
-    if s[p] == 60 {
+    if s[p] == b'<' {
         return mapping_line(s, p);
     }
     if is_charmap(s, p) {
@@ -143,9 +149,9 @@ pub(crate) fn read_mapping(s: &[u8]) -> Mapped
     Mapped::NoForm
 }
 
-// A line behind END CHARMAP.
+// A line after END CHARMAP.
 pub(crate) fn read_last(s: &[u8]) -> Mapped
-    ensures { λ r. ⌜ r ≡ codedForm (lastOf (now (s .entry))) ⌝ }
+    ensures { λ r. ⌜ r ≡ codedLine (afterEndOf (now (s .entry))) ⌝ }
 {
     let p = skip(s, 0);
     if ends(s, p) {

@@ -4,22 +4,29 @@ ghost use mathlib.Core.List.{_++_};
 ghost use Prim.Native.Nat.{_+_, _-_, _≤_, _<_};
 ghost use lib.Dec.{eqb};
 ghost use lib.ListN.{length, getD, take, drop, replicate};
-ghost use Rattle.table.specs.Text.{crBefore, firstLine, restLines, digitOf, byteOf, skipAt, begins, endsAt, byteAt, hexOf, unicodeAt, joinAt, bytesAt, runOf, isCharmap, Within, Keeps, Ran};
+ghost use Rattle.table.specs.Text.{crBefore, digitOf, byteOf, skipAt, endsAt, byteAt, pointDigits, unicodeAt};
+ghost use Rattle.table.specs.Text.{joinAt};
+ghost use Rattle.table.specs.Text.{bytesAt, isCharmap};
+ghost use Rattle.lists.specs.Strings.{begins};
+ghost use Rattle.table.specs.loops.Coded.{firstLine, restLines, byteRunOf};
+ghost use Rattle.table.specs.loops.Ranges.{Within, NumAtMost, Ran};
+use crate::states::TOP;
 
-// A number with the place behind it, or that none stands there.
+// A number and the place after it, or `Bad` where no number stands.
 pub enum Num {
     Val(u32, usize),
     Bad,
 }
 
-// A place in a line, or that there is none.
+// A place in a line, or `No` where there is none.
 pub enum Place {
     At(usize),
     No,
 }
 
-// A run of bytes `\xhh`: as a code (the first four bytes), their count, whether a `+` joined two, and the place behind; or none.
-pub enum Run {
+// A run of bytes `\xhh`: the code of the first four bytes, the count of bytes, whether a `+` joined two, and the place
+// after the run; or `Wrong`.
+pub enum ByteRun {
     Bytes(u32, usize, bool, usize),
     Wrong,
 }
@@ -31,40 +38,40 @@ pub struct LineEnd {
 }
 
 // The value of a hexadecimal digit in either case, or 16.
-pub(crate) fn digit(b: u8) -> u32
+pub fn digit(b: u8) -> u32
     ensures { λ r. ⌜ (r ≡ digitOf b) × (r ≤ 16) ⌝ }
 {
-    if b < 48 {
+    if b < b'0' {
         return 16;
     }
-    if b <= 57 {
+    if b <= b'9' {
         return b as u32 - 48;
     }
-    if b < 65 {
+    if b < b'A' {
         return 16;
     }
-    if b <= 70 {
+    if b <= b'F' {
         return b as u32 - 55;
     }
-    if b < 97 {
+    if b < b'a' {
         return 16;
     }
-    if b <= 102 {
+    if b <= b'f' {
         return b as u32 - 87;
     }
     16
 }
 
-// Past blanks and tabs.
+// The place after blanks and tabs.
 pub(crate) fn skip(s: &[u8], at: usize) -> usize
     ensures { λ r. ⌜ (r ≡ skipAt (now (s .entry)) at) × (at ≤ r) ⌝ }
 {
     let mut i = at;
     while i < s.len() {
         let b = s[i];
-        if b == 32 {
+        if b == b' ' {
             i += 1;
-        } else if b == 9 {
+        } else if b == b'\t' {
             i += 1;
         } else {
             return i;
@@ -73,17 +80,17 @@ pub(crate) fn skip(s: &[u8], at: usize) -> usize
     i
 }
 
-// The line ends here, or a comment starts.
+// Whether the line ends at `at`, or a comment starts there.
 pub(crate) fn ends(s: &[u8], at: usize) -> bool
     ensures { λ r. ⌜ r ≡ endsAt (now (s .entry)) at ⌝ }
 {
     if s.len() <= at {
         return true;
     }
-    s[at] == 35
+    s[at] == b'#'
 }
 
-// The word w stands here.
+// Whether the word w stands at `at`.
 pub(crate) fn word(s: &[u8], at: usize, w: &[u8]) -> bool
     requires { ⌜ at ≤ length (now s) ⌝ }
     ensures { λ r. ⌜ r ≡ begins (now (w .entry)) (drop at (now (s .entry))) ⌝ }
@@ -103,7 +110,7 @@ pub(crate) fn word(s: &[u8], at: usize, w: &[u8]) -> bool
     true
 }
 
-// `CHARMAP` stands here, alone.
+// Whether `CHARMAP` stands at p, alone.
 pub(crate) fn is_charmap(s: &[u8], p: usize) -> bool
     requires { ⌜ p ≤ length (now s) ⌝ }
     ensures { λ r. ⌜ r ≡ isCharmap (now (s .entry)) p ⌝ }
@@ -121,14 +128,14 @@ pub(crate) fn byte(s: &[u8], at: usize) -> Num
     if s.len() <= at {
         return Num::Bad;
     }
-    if s[at] != 92 {
+    if s[at] != b'\\' {
         return Num::Bad;
     }
     let b = at + 1;
     if s.len() <= b {
         return Num::Bad;
     }
-    if s[b] != 120 {
+    if s[b] != b'x' {
         return Num::Bad;
     }
     let h = at + 2;
@@ -152,14 +159,15 @@ pub(crate) fn byte(s: &[u8], at: usize) -> Num
 
 // 1 to 6 hexadecimal digits and `>`.
 fn hex(s: &[u8], at: usize) -> Num
-    ensures { λ r. ⌜ (r ≡ hexOf 0 0 at (drop at (now (s .entry)))) × Keeps 16777215 r at (length (now (s .entry))) ⌝ }
+    ensures { λ r. ⌜ (r ≡ pointDigits 0 0 at (drop at (now (s .entry))))
+        × NumAtMost 16777215 r at (length (now (s .entry))) ⌝ }
 {
     let mut i = at;
     let mut n: u32 = 0;
     let mut v: u32 = 0;
     while i < s.len() {
         let b = s[i];
-        if b == 62 {
+        if b == b'>' {
             if n == 0 {
                 return Num::Bad;
             }
@@ -181,35 +189,35 @@ fn hex(s: &[u8], at: usize) -> Num
 
 // A code point `<U..>`.
 pub(crate) fn unicode(s: &[u8], at: usize) -> Num
-    ensures { λ r. ⌜ (r ≡ unicodeAt (now (s .entry)) at) × Keeps 16777215 r at (length (now (s .entry))) ⌝ }
+    ensures { λ r. ⌜ (r ≡ unicodeAt (now (s .entry)) at) × NumAtMost 16777215 r at (length (now (s .entry))) ⌝ }
 {
     if s.len() <= at {
         return Num::Bad;
     }
-    if s[at] != 60 {
+    if s[at] != b'<' {
         return Num::Bad;
     }
     let b = at + 1;
     if s.len() <= b {
         return Num::Bad;
     }
-    if s[b] != 85 {
+    if s[b] != b'U' {
         return Num::Bad;
     }
     hex(s, at + 2)
 }
 
-// A `+` stands here.
+// Whether a `+` stands at `at`.
 pub(crate) fn plus(s: &[u8], at: usize) -> bool
     ensures { λ r. ⌜ r ≡ eqb (byteOf (now (s .entry)) at) 43 ⌝ }
 {
     if s.len() <= at {
         return false;
     }
-    s[at] == 43
+    s[at] == b'+'
 }
 
-// The token behind q and an optional `+`.
+// The place of the next token after q, past an optional `+`.
 pub(crate) fn join(s: &[u8], q: usize) -> usize
     ensures { λ r. ⌜ (r ≡ joinAt (now (s .entry)) q) × (q ≤ r) ⌝ }
 {
@@ -217,21 +225,21 @@ pub(crate) fn join(s: &[u8], q: usize) -> usize
     if s.len() <= p {
         return p;
     }
-    if s[p] == 43 {
+    if s[p] == b'+' {
         return skip(s, p + 1);
     }
     p
 }
 
-// One or more bytes; the first stands on top of the code, the fifth and later ones have no weight.
-pub(crate) fn bytes_run(s: &[u8], at: usize) -> Run
-    ensures { λ r. ⌜ (r ≡ runOf (bytesAt (now (s .entry)) at)) × Ran r at (length (now (s .entry))) ⌝ }
+// One or more bytes; the first is the highest of the code, the fifth and later ones are only counted.
+pub(crate) fn bytes_run(s: &[u8], at: usize) -> ByteRun
+    ensures { λ r. ⌜ (r ≡ byteRunOf (bytesAt (now (s .entry)) at)) × Ran r at (length (now (s .entry))) ⌝ }
 {
     let Num::Val(first, q) = byte(s, skip(s, at)) else {
-        return Run::Wrong;
+        return ByteRun::Wrong;
     };
     let mut i = q;
-    let mut bits = first * 16777216;
+    let mut bits = first * TOP;
     let mut weight: u32 = 65536;
     let mut len: usize = 1;
     let mut joined = false;
@@ -241,9 +249,9 @@ pub(crate) fn bytes_run(s: &[u8], at: usize) -> Run
         match n {
             Num::Bad => {
                 if p {
-                    return Run::Wrong;
+                    return ByteRun::Wrong;
                 }
-                return Run::Bytes(bits, len, joined, i);
+                return ByteRun::Bytes(bits, len, joined, i);
             }
             Num::Val(v, e) => {
                 bits += v * weight;
@@ -256,31 +264,33 @@ pub(crate) fn bytes_run(s: &[u8], at: usize) -> Run
     }
 }
 
-// A CR stands here, right before an LF.
+// Whether a CR stands at i, right before an LF.
 fn cr_before(text: &[u8], i: usize) -> bool
     requires { ⌜ i < length (now text) ⌝ }
     ensures { λ r. ⌜ r ≡ crBefore (getD (now (text .entry)) i 0) (drop (i + 1) (now (text .entry))) ⌝ }
 {
-    if text[i] != 13 {
+    if text[i] != b'\r' {
         return false;
     }
     let j = i + 1;
     if text.len() <= j {
         return false;
     }
-    text[j] == 10
+    text[j] == b'\n'
 }
 
 // Where the line that starts at a position stops, and where the next starts.
 pub(crate) fn cut_line(text: &[u8], at: usize) -> LineEnd
     requires { ⌜ at < length (now text) ⌝ }
-    ensures { λ r. ⌜ (take (r .stop - at) (drop at (now (text .entry))) ≡ firstLine (drop at (now (text .entry))))
-        × (drop (r .next) (now (text .entry)) ≡ restLines (drop at (now (text .entry))))
-        × (at ≤ r .stop) × (r .stop ≤ length (now (text .entry))) × (at < r .next) × (r .next ≤ length (now (text .entry))) ⌝ }
+    ensures { λ r. ⌜ (let all = now (text .entry) in
+        (take (r .stop - at) (drop at all) ≡ firstLine (drop at all))
+        × (drop (r .next) all ≡ restLines (drop at all))
+        × (at ≤ r .stop) × (r .stop ≤ length all)
+        × (at < r .next) × (r .next ≤ length all)) ⌝ }
 {
     let mut i = at;
     while i < text.len() {
-        if text[i] == 10 {
+        if text[i] == b'\n' {
             return LineEnd {
                 stop: i,
                 next: i + 1,
@@ -297,7 +307,7 @@ pub(crate) fn cut_line(text: &[u8], at: usize) -> LineEnd
     LineEnd { stop: i, next: i }
 }
 
-// Sets the first n entries of states to zero.
+// Sets the first n cells of the states to zero.
 pub(crate) fn zero_states(xs: &mut [u16], n: usize)
     requires { ⌜ n ≤ length (now xs) ⌝ }
     ensures { λ _. ⌜ now (xs .exit) ≡ replicate n 0 ++ drop n (now (xs .entry)) ⌝ }

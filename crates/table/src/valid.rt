@@ -3,27 +3,32 @@ use crate::states::Code;
 use crate::states::NEEDED;
 use crate::states::Step;
 ghost use mathlib.Core.Path.{_≡_};
-ghost use mathlib.Core.Bool.{true, false};
+ghost use mathlib.Core.Bool.{true};
 ghost use mathlib.Core.List.{[]};
 ghost use Prim.Native.Nat.{ℕ, _+_, _≤_, _<_};
 ghost use lib.ListN.{length, take};
 ghost use lib.Dec.{leb};
-ghost use Rattle.lists.specs.Pick.{pick};
 ghost use Rattle.lists.specs.Order.{rises};
 ghost use Rattle.table.specs.Limits.{limits};
 ghost use Rattle.table.specs.States.{stepAt, endKind};
 ghost use Rattle.table.specs.Codes.{bytesOf};
-ghost use Rattle.table.specs.Rules.{allOf, t4Sub, t4Sub1, t5Kind, t6, t7, t8};
-ghost use Rattle.table.specs.Entry.{mk, lineIn, padded, isRank, entryOk, keyIn, readNext, writeNext};
+ghost use Rattle.table.specs.Rules.{t4Sub, t4Sub1, t5Kind, t6, t7, t8};
+ghost use Rattle.lists.specs.Tests.{allOf};
+ghost use Rattle.table.specs.Stored.{mk, lineIn, padded, isRank, storedOk, orderKeyIn, readNext, writeNext};
 ghost use Rattle.table.specs.Slices.{slices};
-ghost use Rattle.table.specs.Memory.{entries, sub1In};
-ghost use Rattle.table.specs.Common.{CommonCode};
+ghost use Rattle.table.specs.Memory.{storedList, sub1In};
+ghost use Rattle.table.specs.loops.Common.{CommonCode};
 ghost use Rattle.table.specs.Valid.{ordered, recordOk, lineOk, storeOk, valid};
+use crate::states::TOP;
+use crate::store::EXTRA;
+use crate::store::RANK;
+ghost use Rattle.lists.specs.Pick.{_and_};
+use crate::states::ROWS;
 
-// The mappings that a table can have, which is what each mapping slice needs.
+// The mappings that a table can have, and the numbers that each mapping slice needs.
 pub(crate) const MAPPINGS: usize = 2048;
 
-// What an accepted text hands back beside the memory. `subchar1` is 0 where none is given, else 1 + the byte.
+// The record that an accepted text gives beside the memory. `subchar1` is 0 if the table has none, else 1 + the byte.
 pub struct Record {
     pub rows: u32,
     pub mappings: u32,
@@ -33,50 +38,50 @@ pub struct Record {
     pub subchar1: u32,
 }
 
-// What neighbours in the first order are tested for: they rise and are not both read for the same bytes.
+// The test of neighbours in the first order: they rise, and do not both read the same bytes.
 fn read_next(c: u32, i: u32, d: u32, j: u32) -> bool
     ensures { λ r. ⌜ r ≡ readNext (mk c i) (mk d j) ⌝ }
 {
     if c < d {
         return true;
     }
-    if !crate::store::entry_less(c, i, d, j) {
+    if !crate::store::stored_less(c, i, d, j) {
         return false;
     }
-    if i / 16777216 != j / 16777216 {
+    if i / EXTRA != j / EXTRA {
         return true;
     }
-    if 1 < i / 2097152 % 8 {
+    if 1 < i / RANK % 8 {
         return true;
     }
-    if 1 < j / 2097152 % 8 {
+    if 1 < j / RANK % 8 {
         return true;
     }
     false
 }
 
-// What neighbours in the second order are tested for: they rise and are not both written for the same code point.
+// The test of neighbours in the second order: they rise, and do not both write the same code point.
 fn write_next(c: u32, i: u32, d: u32, j: u32) -> bool
     ensures { λ r. ⌜ r ≡ writeNext (mk c i) (mk d j) ⌝ }
 {
     if !crate::store::point_less(c, i, d, j) {
         return false;
     }
-    if i % 2097152 != j % 2097152 {
+    if i % RANK != j % RANK {
         return true;
     }
-    if i / 2097152 % 8 == 1 {
+    if i / RANK % 8 == 1 {
         return true;
     }
-    if j / 2097152 % 8 == 1 {
+    if j / RANK % 8 == 1 {
         return true;
     }
     false
 }
 
-// The same with both keys of the second order at hand, which mostly decide alone.
+// The same for a caller that has both keys of the second order; mostly they decide.
 fn keys_next(key: u32, next: u32, c: u32, i: u32, d: u32, j: u32) -> bool
-    requires { ⌜ (key ≡ keyIn i) × (next ≡ keyIn j) ⌝ }
+    requires { ⌜ (key ≡ orderKeyIn i) × (next ≡ orderKeyIn j) ⌝ }
     ensures { λ r. ⌜ r ≡ writeNext (mk c i) (mk d j) ⌝ }
 {
     if key < next {
@@ -85,12 +90,12 @@ fn keys_next(key: u32, next: u32, c: u32, i: u32, d: u32, j: u32) -> bool
     write_next(c, i, d, j)
 }
 
-// Unused places behind the bytes of a code are zero, and it has 1 to 4.
+// A code has 1 to 4 bytes, and its unused bits are zero.
 pub fn is_padded(len: u32, bits: u32) -> bool
     ensures { λ r. ⌜ r ≡ padded len bits ⌝ }
 {
     if len == 1 {
-        return bits % 16777216 == 0;
+        return bits % TOP == 0;
     }
     if len == 2 {
         return bits % 65536 == 0;
@@ -101,7 +106,7 @@ pub fn is_padded(len: u32, bits: u32) -> bool
     len == 4
 }
 
-// The rank of a line: 3 and those from 5 up are none.
+// Whether a number is the rank of a line: 0, 1, 2 or 4.
 fn is_rank(rank: u32) -> bool
     ensures { λ r. ⌜ r ≡ isRank rank ⌝ }
 {
@@ -111,19 +116,20 @@ fn is_rank(rank: u32) -> bool
     rank == 4
 }
 
-// Whether the two numbers of a stored mapping are those of a line.
-fn entry_ok(bits: u32, info: u32) -> bool
-    ensures { λ r. ⌜ r ≡ entryOk (mk bits info) ⌝ }
+// Whether the two numbers of a stored mapping encode a line.
+fn stored_ok(bits: u32, info: u32) -> bool
+    ensures { λ r. ⌜ r ≡ storedOk (mk bits info) ⌝ }
 {
-    if !is_rank(info / 2097152 % 8) {
+    if !is_rank(info / RANK % 8) {
         return false;
     }
-    is_padded(info / 16777216 + 1, bits)
+    is_padded(info / EXTRA + 1, bits)
 }
 
 // T5 of a line that is not `|2`.
 pub(crate) fn keeps_t5(steps: &[u16], min: u32, max: u32, point: u32, code: Code) -> bool
-    ensures { λ r. ⌜ r ≡ pick (leb min (code .len)) (pick (leb (code .len) max) (t5Kind point (endKind (stepAt (now (steps .entry))) 0 (bytesOf code))) false) false ⌝ }
+    ensures { λ r. ⌜ (let kind = endKind (stepAt (now (steps .entry))) 0 (bytesOf code) in
+        r ≡ (leb min (code .len) and leb (code .len) max and t5Kind point kind)) ⌝ }
 {
     if code.len < min {
         return false;
@@ -156,11 +162,11 @@ pub(crate) fn keeps_t6(point: u32) -> bool
 
 // T7 and T8 of a stored line that is of the form.
 fn keeps_t7_t8(sub1: u32, bits: u32, info: u32) -> bool
-    requires { ⌜ entryOk (mk bits info) ≡ true ⌝ }
-    ensures { λ r. ⌜ r ≡ pick (t7 (lineIn (mk bits info))) (t8 (sub1In sub1) (lineIn (mk bits info))) false ⌝ }
+    requires { ⌜ storedOk (mk bits info) ≡ true ⌝ }
+    ensures { λ r. ⌜ (let line = lineIn (mk bits info) in r ≡ (t7 line and t8 (sub1In sub1) line)) ⌝ }
 {
-    let rank = info / 2097152 % 8;
-    let extra = info / 16777216;
+    let rank = info / RANK % 8;
+    let extra = info / EXTRA;
     if rank == 4 {
         if sub1 == 0 {
             return false;
@@ -168,7 +174,7 @@ fn keeps_t7_t8(sub1: u32, bits: u32, info: u32) -> bool
         if extra != 0 {
             return false;
         }
-        return bits / 16777216 == sub1 - 1;
+        return bits / TOP == sub1 - 1;
     }
     if rank == 1 {
         return true;
@@ -176,13 +182,13 @@ fn keeps_t7_t8(sub1: u32, bits: u32, info: u32) -> bool
     if extra == 0 {
         return true;
     }
-    if bits / 16777216 == 0 {
+    if bits / TOP == 0 {
         return false;
     }
     true
 }
 
-// How a code ends: as one that may stand for any code point up to U+FFFF.
+// Whether a code that ends so may stand for every code point up to U+FFFF.
 fn is_assigned(kind: u16) -> bool
     ensures { λ r. ⌜ ((point : ℕ) → point ≤ 0xffff → r ≡ t5Kind point kind) ⌝ }
 {
@@ -205,7 +211,7 @@ fn one_byte_ok(steps: &[u16], min: u32, max: u32, bits: u32) -> bool
     if max < 1 {
         return false;
     }
-    if bits % 16777216 != 0 {
+    if bits % TOP != 0 {
         return false;
     }
     is_assigned(crate::states::last_kind(steps, 0, bits))
@@ -224,37 +230,35 @@ fn two_bytes_ok(steps: &[u16], min: u32, max: u32, bits: u32) -> bool
     if bits % 65536 != 0 {
         return false;
     }
-    if bits / 16777216 == 0 {
+    if bits / TOP == 0 {
         return false;
     }
-    match crate::states::step_at(steps, 0, (bits / 16777216) as u8) {
+    match crate::states::step_at(steps, 0, (bits / TOP) as u8) {
         Step::Illegal => false,
         Step::Ends(_) => false,
-        Step::Leads(row) => {
-            is_assigned(crate::states::last_kind(steps, row, bits % 16777216 * 256))
-        }
+        Step::Leads(row) => { is_assigned(crate::states::last_kind(steps, row, bits % TOP * 256)) }
     }
 }
 
 // A first test for the common line, which has one or two bytes, is no `|2` line and stands for a code point up to
-// U+FFFF: what passes keeps the rules, of what does not nothing is said.
+// U+FFFF: a line that passes keeps the rules; a line that fails may keep them too.
 fn common_ok(steps: &[u16], rec: Record, bits: u32, info: u32) -> bool
     ensures { λ r. ⌜ (r ≡ true → lineOk (stepAt (now (steps .entry))) rec (mk bits info) ≡ true) ⌝ }
 {
-    let point = info % 2097152;
+    let point = info % RANK;
     if 0xffff < point {
         return false;
     }
     if !keeps_t6(point) {
         return false;
     }
-    if 2 < info / 2097152 % 8 {
+    if 2 < info / RANK % 8 {
         return false;
     }
-    if info / 16777216 == 0 {
+    if info / EXTRA == 0 {
         return one_byte_ok(steps, rec.min, rec.max, bits);
     }
-    if info / 16777216 == 1 {
+    if info / EXTRA == 1 {
         return two_bytes_ok(steps, rec.min, rec.max, bits);
     }
     false
@@ -264,23 +268,23 @@ fn common_ok(steps: &[u16], rec: Record, bits: u32, info: u32) -> bool
 fn rules_ok(steps: &[u16], rec: Record, bits: u32, info: u32) -> bool
     ensures { λ r. ⌜ r ≡ lineOk (stepAt (now (steps .entry))) rec (mk bits info) ⌝ }
 {
-    if !entry_ok(bits, info) {
+    if !stored_ok(bits, info) {
         return false;
     }
-    if !keeps_t6(info % 2097152) {
+    if !keeps_t6(info % RANK) {
         return false;
     }
     if !keeps_t7_t8(rec.subchar1, bits, info) {
         return false;
     }
-    if info / 2097152 % 8 == 4 {
+    if info / RANK % 8 == 4 {
         return true;
     }
     let code = Code {
         bits: bits,
-        len: info / 16777216 + 1,
+        len: info / EXTRA + 1,
     };
-    keeps_t5(steps, rec.min, rec.max, info % 2097152, code)
+    keeps_t5(steps, rec.min, rec.max, info % RANK, code)
 }
 
 // A stored line: of the form, and T5 to T8.
@@ -293,11 +297,12 @@ fn line_ok(steps: &[u16], rec: Record, bits: u32, info: u32) -> bool
     rules_ok(steps, rec, bits, info)
 }
 
-// One pass over the entries: each is a line that keeps T5 to T8, they rise, and no two neighbours are read for the
-// same bytes.
+// One pass over the stored mappings: each is a line that keeps T5 to T8, they rise, and no two neighbours read the same
+// bytes.
 fn lines_ok(steps: &[u16], rec: Record, codes: &[u32], infos: &[u32]) -> bool
     requires { ⌜ length (now codes) ≡ length (now infos) ⌝ }
-    ensures { λ r. ⌜ r ≡ pick (rises readNext (entries (now (codes .entry)) (now (infos .entry)))) (allOf (lineOk (stepAt (now (steps .entry))) rec) (entries (now (codes .entry)) (now (infos .entry)))) false ⌝ }
+    ensures { λ r. ⌜ (let all = storedList (now (codes .entry)) (now (infos .entry)) in
+        r ≡ (rises readNext all and allOf (lineOk (stepAt (now (steps .entry))) rec) all)) ⌝ }
 {
     if codes.len() == 0 {
         return true;
@@ -324,7 +329,7 @@ fn lines_ok(steps: &[u16], rec: Record, codes: &[u32], infos: &[u32]) -> bool
     true
 }
 
-// The indices are in range, rise, and no two neighbours are written for the same code point.
+// The indices are in range and rise in the second order, and no two neighbours write the same code point.
 fn order_ok(codes: &[u32], infos: &[u32], order: &[u32]) -> bool
     requires { ⌜ length (now codes) ≡ length (now infos) ⌝ }
     ensures { λ r. ⌜ r ≡ ordered (now (codes .entry)) (now (infos .entry)) (now (order .entry)) ⌝ }
@@ -336,14 +341,14 @@ fn order_ok(codes: &[u32], infos: &[u32], order: &[u32]) -> bool
     if codes.len() <= p {
         return false;
     }
-    let mut key = crate::store::key_of(infos[p]);
+    let mut key = crate::store::order_key(infos[p]);
     let mut k: usize = 1;
     while k < order.len() {
         let q = order[k] as usize;
         if codes.len() <= q {
             return false;
         }
-        let next = crate::store::key_of(infos[q]);
+        let next = crate::store::order_key(infos[q]);
         if keys_next(key, next, codes[p], infos[p], codes[q], infos[q]) {
             p = q;
             key = next;
@@ -355,11 +360,13 @@ fn order_ok(codes: &[u32], infos: &[u32], order: &[u32]) -> bool
     true
 }
 
-// The mapping slices: long enough, every mapping and its order right, zeros behind the last.
+// The mapping slices: long enough, every mapping and the order right, zeros after the last mapping.
 fn mappings_ok(steps: &[u16], rec: Record, codes: &[u32], infos: &[u32], order: &[u32]) -> bool
     requires { ⌜ rec .mappings ≤ limits .mappings ⌝ }
-    ensures { λ r. ⌜ r ≡ pick (storeOk (limits .mappings) (rec .mappings) (now (codes .entry)) (now (infos .entry)) (now (order .entry)))
-        (allOf (lineOk (stepAt (now (steps .entry))) rec) (entries (take (rec .mappings) (now (codes .entry))) (take (rec .mappings) (now (infos .entry))))) false ⌝ }
+    ensures { λ r. ⌜ (let n = rec .mappings in
+        let all = storedList (take n (now (codes .entry))) (take n (now (infos .entry))) in
+        r ≡ (storeOk (limits .mappings) n (now (codes .entry)) (now (infos .entry)) (now (order .entry))
+        and allOf (lineOk (stepAt (now (steps .entry))) rec) all)) ⌝ }
 {
     let n = rec.mappings as usize;
     if codes.len() < MAPPINGS {
@@ -393,7 +400,7 @@ fn record_ok(rec: Record) -> bool
     if rec.rows < 1 {
         return false;
     }
-    if 16 < rec.rows {
+    if ROWS < rec.rows as usize {
         return false;
     }
     if MAPPINGS < rec.mappings as usize {
@@ -421,7 +428,8 @@ fn record_ok(rec: Record) -> bool
 // T4: subchar is a complete code, and subchar1 too, if there is one.
 pub(crate) fn keeps_t4(steps: &[u16], rec: Record) -> bool
     requires { ⌜ rec .subchar1 ≤ 256 ⌝ }
-    ensures { λ r. ⌜ r ≡ pick (t4Sub (stepAt (now (steps .entry))) (bytesOf (rec .subchar))) (t4Sub1 (stepAt (now (steps .entry))) (sub1In (rec .subchar1))) false ⌝ }
+    ensures { λ r. ⌜ (let step = stepAt (now (steps .entry)) in
+        r ≡ (t4Sub step (bytesOf (rec .subchar)) and t4Sub1 step (sub1In (rec .subchar1)))) ⌝ }
 {
     let sub = rec.subchar;
     if crate::states::end_kind(steps, 0, sub) == 0 {
@@ -431,7 +439,7 @@ pub(crate) fn keeps_t4(steps: &[u16], rec: Record) -> bool
         return true;
     }
     let one = Code {
-        bits: (rec.subchar1 - 1) * 16777216,
+        bits: (rec.subchar1 - 1) * TOP,
         len: 1,
     };
     if crate::states::end_kind(steps, 0, one) == 0 {
@@ -448,7 +456,9 @@ pub fn memory_valid(
     infos: &[u32],
     order: &[u32],
 ) -> bool
-    ensures { λ r. ⌜ r ≡ valid limits rec (slices (now (states .entry)) (now (codes .entry)) (now (infos .entry)) (now (order .entry))) ⌝ }
+    ensures { λ r. ⌜ (let m =
+        slices (now (states .entry)) (now (codes .entry)) (now (infos .entry)) (now (order .entry)) in
+        r ≡ valid limits rec m) ⌝ }
 {
     if !record_ok(rec) {
         return false;

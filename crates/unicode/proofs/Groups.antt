@@ -10,18 +10,18 @@ use Rattle.lists.proofs.Cases.{pick-case}
 use Rattle.unicode.specs.Utf8.{markOf, trailCount, trailByte, leadByte}
 
 -- six bits are put under a value that has room for them
-pub six-under : (v y : ℕ) → v < 2 ^ 26 → y < 64 → bitOr (v * 2 ^ 6 % 2 ^ 32) y ≡ v * 64 + y
-six-under v y h l = rw (shl-exact 26 6 32 h (lit≤ tt)) (or-shifted v 6 y l)
+pub or-group : (v y : ℕ) → v < 2 ^ 26 → y < 64 → bitOr (v * 2 ^ 6 % 2 ^ 32) y ≡ v * 64 + y
+or-group v y h l = rw (shl-exact 26 6 32 h (lit≤ tt)) (or-shifted v 6 y l)
 
 -- one group further up
-pub up : (c k : ℕ) → c / 2 ^ (6 * suc k) ≡ c / 2 ^ (6 * k) / 64
-up c k =
+pub div-group : (c k : ℕ) → c / 2 ^ (6 * suc k) ≡ c / 2 ^ (6 * k) / 64
+div-group c k =
     let e : 6 * suc k ≡ 6 * k + 6 = omega arith in
     rw e (sym (shr-shr c (6 * k) 6))
 
 -- a group that was taken and put back
-pub six : (c k : ℕ) → c / 2 ^ (6 * suc k) * 64 + trailByte c k % 64 ≡ c / 2 ^ (6 * k)
-six c k = omega (arith, up c k)
+pub shift-group : (c k : ℕ) → c / 2 ^ (6 * suc k) * 64 + trailByte c k % 64 ≡ c / 2 ^ (6 * k)
+shift-group c k = omega (arith, div-group c k)
 
 -- six bits under the mark of a trail byte
 pub trail-or : (y : ℕ) → y < 64 → bitOr 0x80 y ≡ 0x80 + y

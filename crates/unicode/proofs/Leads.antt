@@ -60,8 +60,8 @@ module _ (b : ℕ) where
   lead-high h = simp (le-ltb b 0x80 (omega arith), le-ltb b 0xc2 (omega arith), le-ltb b 0xe0 (omega arith), le-ltb b 0xf0 (omega arith), le-ltb b 0xf5 h)
 
 -- a row with the bits as the code takes them
-pub told : {k lo hi v w : ℕ} {l : Lead} → l ≡ Of k lo hi v → w ≡ v → Of k lo hi w ≡ l
-told e m = cc
+pub same-lead-of : {k lo hi v w : ℕ} {l : Lead} → l ≡ Of k lo hi v → w ≡ v → Of k lo hi w ≡ l
+same-lead-of e m = cc
 
 -- what holds of each row holds of every byte
 pub lead-case : (P : Lead → Type 0) (b : ℕ)
@@ -97,7 +97,7 @@ abbrev Small : Lead → Type 0
 Small (Of k lo hi v) = (k ≤ 3) × (v < 128)
 Small Illegal = 0 ≤ 0
 
-pub small : (b k lo hi v : ℕ) → leadOf b ≡ Of k lo hi v → (k ≤ 3) × (v < 128)
-small b k lo hi v e =
+pub leadOf-small : (b k lo hi v : ℕ) → leadOf b ≡ Of k lo hi v → (k ≤ 3) × (v < 128)
+leadOf-small b k lo hi v e =
     subst Small e
     (lead-case Small b (λ u. omega arith) (λ u. omega arith) (λ u. omega arith) (λ u. omega arith) (λ u. omega arith) (λ u. omega arith) (λ u. omega arith) (λ u. omega arith) (λ u. omega arith) (λ u. omega arith))

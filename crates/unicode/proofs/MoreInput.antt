@@ -7,7 +7,7 @@ use native.Mathlib.Omega.{arith}
 use Rattle.lists.specs.Pick.{pick}
 use Rattle.lists.specs.Between.{between}
 use Rattle.lists.proofs.Cases.{pick-yes}
-use Rattle.lists.proofs.Between.{between-yes}
+use Rattle.lists.proofs.Between.{between-yes⁺}
 use Rattle.unicode.specs.Utf8.{leadOf, trailsOf, afterLead, decodeOne}
 use Rattle.unicode.specs.declared.utf8.Lead.{Lead}
 use Rattle.unicode.specs.declared.utf8.Lead.the-variants.{Of, Illegal}
@@ -17,20 +17,20 @@ use Rattle.unicode.specs.declared.utf8.Stop.the-variants as stop
 use Rattle.unicode.proofs.Leads.{lead-case}
 
 -- an answer that is not 'cut short'
-abbrev pub Settled : Sequence → Type 0
-Settled o = o ≡ Stopped stop.CutShort → ⊥
+abbrev pub NotCutShort : Sequence → Type 0
+NotCutShort o = o ≡ Stopped stop.CutShort → ⊥
 
-pick-same : (t : Bool) (a b d : Sequence) → (Settled a → b ≡ a) → Settled (pick t a d) → pick t b d ≡ pick t a d
+pick-same : (t : Bool) (a b d : Sequence) → (NotCutShort a → b ≡ a) → NotCutShort (pick t a d) → pick t b d ≡ pick t a d
 pick-same true a b d f n = f n
 pick-same false a b d f n = refl
 
-trails-same : (k lo hi v n : ℕ) (s t : List ℕ) → Settled (trailsOf k lo hi v n s) → trailsOf k lo hi v n (s ++ t) ≡ trailsOf k lo hi v n s
+trails-same : (k lo hi v n : ℕ) (s t : List ℕ) → NotCutShort (trailsOf k lo hi v n s) → trailsOf k lo hi v n (s ++ t) ≡ trailsOf k lo hi v n s
 trails-same zero lo hi v n s t e = refl
 trails-same (suc k) lo hi v n [] t e = absurd (e refl)
 trails-same (suc k) lo hi v n (x ∷ s) t e =
     pick-same (between lo hi x) _ _ (Stopped (stop.Illegal (n + 1))) (trails-same k 0x80 0xbf (v * 64 + x % 64) (n + 1) s t) e
 
-lead-same : (l : Lead) (s t : List ℕ) → Settled (afterLead l s) → afterLead l (s ++ t) ≡ afterLead l s
+lead-same : (l : Lead) (s t : List ℕ) → NotCutShort (afterLead l s) → afterLead l (s ++ t) ≡ afterLead l s
 lead-same (Of k lo hi v) s t e = trails-same k lo hi v 1 s t e
 lead-same Illegal s t e = refl
 
@@ -51,13 +51,13 @@ fill : (k lo hi v n : ℕ) → lo ≤ hi → Rest (trailsOf k lo hi v n)
 fill zero lo hi v n h = record { bytes = []; code = v; size = n; reads = refl }
 fill (suc k) lo hi v n h =
     let r = fill k 0x80 0xbf (v * 64 + lo % 64) (n + 1) (omega arith) in
-    record { bytes = lo ∷ r .bytes; code = r .code; size = r .size; reads = pick-yes (between lo hi lo) _ _ (between-yes lo hi lo (omega arith) h) ∙ r .reads }
+    record { bytes = lo ∷ r .bytes; code = r .code; size = r .size; reads = pick-yes (between lo hi lo) _ _ (between-yes⁺ lo hi lo (omega arith) h) ∙ r .reads }
 
-pick-fill : (t : Bool) (a d : Sequence) (f : List ℕ → Sequence) → (a ≡ Stopped stop.CutShort → Rest f) → Settled d → pick t a d ≡ Stopped stop.CutShort → Rest (λ l. pick t (f l) d)
+pick-fill : (t : Bool) (a d : Sequence) (f : List ℕ → Sequence) → (a ≡ Stopped stop.CutShort → Rest f) → NotCutShort d → pick t a d ≡ Stopped stop.CutShort → Rest (λ l. pick t (f l) d)
 pick-fill true a d f g n e = g e
 pick-fill false a d f g n e = absurd (n e)
 
-illegal : (n : ℕ) → Settled (Stopped (stop.Illegal n))
+illegal : (n : ℕ) → NotCutShort (Stopped (stop.Illegal n))
 illegal n e = let z : _≡_ {A = ℕ} 0 1 = cc in omega arith
 
 trails-fill : (k lo hi v n : ℕ) (s : List ℕ) → lo ≤ hi → trailsOf k lo hi v n s ≡ Stopped stop.CutShort → Rest (λ t. trailsOf k lo hi v n (s ++ t))

@@ -15,21 +15,21 @@ use Rattle.lists.proofs.Laws.{clash}
 use Rattle.lists.proofs.Cases.{pick-case}
 use Rattle.unicode.specs.Utf8.{Scalar, isScalar, trailCount, leadByte, trailBytes, encodeOf, encodeAnswer, encodeInto}
 use Rattle.unicode.specs.declared.utf8.Put.{Put}
-use Rattle.unicode.specs.declared.utf8.Put.the-variants.{Done, Full, NotScalar}
+use Rattle.unicode.specs.declared.utf8.Put.the-variants.{Bytes, NoRoom, NotScalar}
 use Rattle.unicode.proofs.Groups.{count-most}
 
 -- the test of a scalar value, both ways
-pub is-scalar : (c : ℕ) → isScalar c ≡ true → Scalar c
+pub isScalar⇒Scalar : (c : ℕ) → isScalar c ≡ true → Scalar c
 unfolding isScalar
-is-scalar c =
+isScalar⇒Scalar c =
     pick-case (λ (t : Bool). t ≡ true → Scalar c) (ltb c 0xd800) _ _
     (λ t e. let a = ltb-true c 0xd800 t in record { below = omega arith; plain = λ p. omega arith })
     (λ t0. pick-case (λ (t : Bool). t ≡ true → Scalar c) (ltb c 0xe000) _ _ (λ t e. absurd (clash e refl))
     (λ t1 e. let a = ltb-false c 0xe000 t1 in record { below = ltb-true c 0x110000 e; plain = λ p. omega arith }))
 
-pub scalar-is : (c : ℕ) → Scalar c → isScalar c ≡ true
+pub Scalar⇒isScalar : (c : ℕ) → Scalar c → isScalar c ≡ true
 unfolding isScalar
-scalar-is c s =
+Scalar⇒isScalar c s =
     pick-case (λ (t : Bool). t ≡ true) (ltb c 0xd800) _ _ (λ t. refl)
     (λ t0. pick-case (λ (t : Bool). t ≡ true) (ltb c 0xe000) _ _ (λ t. absurd (s .plain (ltb-false c 0xd800 t0, ltb-true c 0xe000 t))) (λ t1. lt-ltb c 0x110000 (s .below)))
 
@@ -38,36 +38,36 @@ length-trails : (c k : ℕ) → length (trailBytes c k) ≡ k
 length-trails c zero = refl
 length-trails c (suc k) = ap suc (length-trails c k)
 
-pub length-count : (c : ℕ) → length (encodeOf c) ≡ trailCount c + 1
+pub length-encodeOf : (c : ℕ) → length (encodeOf c) ≡ trailCount c + 1
 unfolding encodeOf
-length-count c = ap suc (length-trails c (trailCount c)) ∙ sym (add-one (trailCount c))
+length-encodeOf c = ap suc (length-trails c (trailCount c)) ∙ sym (add-one (trailCount c))
 
 pub length-encode : (c : ℕ) → (1 ≤ length (encodeOf c)) × (length (encodeOf c) ≤ 4)
-length-encode c = omega (arith, length-count c, count-most c)
+length-encode c = omega (arith, length-encodeOf c, count-most c)
 
 -- the answer and the list where the lead byte and k trail bytes are stored
-abbrev pub Stored : ℕ → List ℕ → ℕ → ℕ → Type 0
-Stored c out at k = (Done (k + 1) ≡ encodeAnswer c out at) × (sets out at (leadByte c k ∷ trailBytes c k) ≡ encodeInto c out at)
+abbrev pub PutAt : ℕ → List ℕ → ℕ → ℕ → Type 0
+PutAt c out at k = (Bytes (k + 1) ≡ encodeAnswer c out at) × (sets out at (leadByte c k ∷ trailBytes c k) ≡ encodeInto c out at)
 
 -- the answer and the list, by what the tests said
-pub refused : (c : ℕ) (out : List ℕ) (at : ℕ) → isScalar c ≡ false → (NotScalar ≡ encodeAnswer c out at) × (out ≡ encodeInto c out at)
+pub encode-refused : (c : ℕ) (out : List ℕ) (at : ℕ) → isScalar c ≡ false → (NotScalar ≡ encodeAnswer c out at) × (out ≡ encodeInto c out at)
 unfolding encodeAnswer encodeInto
-refused c out at h = (rw h, rw h)
+encode-refused c out at h = (rw h, rw h)
 
 module _ (c : ℕ) (out : List ℕ) (at trails : ℕ) (yes : isScalar c ≡ true) (e : trails ≡ trailCount c) where
-  pub full : length out < at + (trails + 1) → (Full ≡ encodeAnswer c out at) × (out ≡ encodeInto c out at)
+  pub encode-full : length out < at + (trails + 1) → (NoRoom ≡ encodeAnswer c out at) × (out ≡ encodeInto c out at)
   unfolding encodeAnswer encodeInto
-  full h =
-      let n = length-count c in
+  encode-full h =
+      let n = length-encodeOf c in
       let t = lt-leb (at + length (encodeOf c)) (length out) (omega arith) in
       (simp (yes, t), simp (yes, t))
 
-  pub done : at + (trails + 1) ≤ length out → Stored c out at trails
+  pub encode-done : at + (trails + 1) ≤ length out → PutAt c out at trails
   unfolding encodeOf encodeAnswer encodeInto
-  done h =
-      let n = length-count c in
+  encode-done h =
+      let n = length-encodeOf c in
       let t = le-leb (at + length (encodeOf c)) (length out) (omega arith) in
-      (simp (yes, t) (ap Done (omega arith)), rw e (sets-eq (encodeOf c) out at (omega arith) ∙ simp (yes, t)))
+      (simp (yes, t) (ap Bytes (omega arith)), rw e (sets-eq (encodeOf c) out at (omega arith) ∙ simp (yes, t)))
 
 -- what each answer tells a caller
 pub record PutDone (c : ℕ) (old : List ℕ) (at m : ℕ) : Type 0 where
@@ -88,17 +88,17 @@ pub record PutRefused (c : ℕ) (old : List ℕ) (at : ℕ) : Type 0 where
 -- the answer and the list by the two tests
 module _ (c : ℕ) (old : List ℕ) (at : ℕ) where
   abbrev AnswerBy : Bool → Bool → Put
-  AnswerBy s t = pick s (pick t (Done (length (encodeOf c))) Full) NotScalar
+  AnswerBy s t = pick s (pick t (Bytes (length (encodeOf c))) NoRoom) NotScalar
 
   abbrev IntoBy : Bool → Bool → List ℕ
   IntoBy s t = pick s (pick t (placed old at (encodeOf c)) old) old
 
-  done-by : (m : ℕ) (s t : Bool) → Done m ≡ AnswerBy s t → (s ≡ true) × (t ≡ true) × (m ≡ length (encodeOf c)) × (IntoBy s t ≡ placed old at (encodeOf c))
+  done-by : (m : ℕ) (s t : Bool) → Bytes m ≡ AnswerBy s t → (s ≡ true) × (t ≡ true) × (m ≡ length (encodeOf c)) × (IntoBy s t ≡ placed old at (encodeOf c))
   done-by m true true e = (refl, refl, cc, refl)
   done-by m true false e = let z : _≡_ {A = ℕ} 0 1 = cc in absurd (omega arith)
   done-by m false t e = let z : _≡_ {A = ℕ} 0 1 = cc in absurd (omega arith)
 
-  full-by : (s t : Bool) → Full ≡ AnswerBy s t → (s ≡ true) × (t ≡ false) × (IntoBy s t ≡ old)
+  full-by : (s t : Bool) → NoRoom ≡ AnswerBy s t → (s ≡ true) × (t ≡ false) × (IntoBy s t ≡ old)
   full-by true true e = let z : _≡_ {A = ℕ} 0 1 = cc in absurd (omega arith)
   full-by true false e = (refl, refl, refl)
   full-by false t e = let z : _≡_ {A = ℕ} 0 1 = cc in absurd (omega arith)
@@ -108,20 +108,20 @@ module _ (c : ℕ) (old : List ℕ) (at : ℕ) where
   refused-by true false e = let z : _≡_ {A = ℕ} 0 1 = cc in absurd (omega arith)
   refused-by false t e = (refl, refl)
 
-  pub put-done : (m : ℕ) → Done m ≡ encodeAnswer c old at → PutDone c old at m
+  pub put-done : (m : ℕ) → Bytes m ≡ encodeAnswer c old at → PutDone c old at m
   unfolding encodeAnswer encodeInto
   put-done m e =
       let r = done-by m (isScalar c) (fits old at (encodeOf c)) e in
-      record { scalar = is-scalar c (r .0); within = leb-true _ _ (r .1); count = r .2; bytes = r .3 }
+      record { scalar = isScalar⇒Scalar c (r .0); within = leb-true _ _ (r .1); count = r .2; bytes = r .3 }
 
-  pub put-full : Full ≡ encodeAnswer c old at → PutFull c old at
+  pub put-full : NoRoom ≡ encodeAnswer c old at → PutFull c old at
   unfolding encodeAnswer encodeInto
   put-full e =
       let r = full-by (isScalar c) (fits old at (encodeOf c)) e in
-      record { scalar = is-scalar c (r .0); beyond = leb-false _ _ (r .1); kept = r .2 }
+      record { scalar = isScalar⇒Scalar c (r .0); beyond = leb-false _ _ (r .1); kept = r .2 }
 
   pub put-refused : NotScalar ≡ encodeAnswer c old at → PutRefused c old at
   unfolding encodeAnswer encodeInto
   put-refused e =
       let r = refused-by (isScalar c) (fits old at (encodeOf c)) e in
-      record { other = λ s. clash (scalar-is c s) (r .0); kept = r .1 }
+      record { other = λ s. clash (Scalar⇒isScalar c s) (r .0); kept = r .1 }

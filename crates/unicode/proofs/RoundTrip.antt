@@ -6,21 +6,21 @@ use native.Mathlib.Omega.{arith}
 use lib.ListN.{drop, length, length-append}
 use Rattle.lists.specs.Between.{between}
 use Rattle.lists.proofs.Cases.{pick-case, pick-yes}
-use Rattle.lists.proofs.Between.{between-yes, between-is}
+use Rattle.lists.proofs.Between.{between-yes⁺, between-yes⁻}
 use Rattle.unicode.specs.Utf8.{Scalar, leadOf, trailsOf, afterLead, decodeOne, trailCount, trailByte, leadByte, trailBytes, encodeOf}
 use Rattle.unicode.specs.declared.utf8.Lead.{Lead}
 use Rattle.unicode.specs.declared.utf8.Lead.the-variants.{Of, Illegal}
 use Rattle.unicode.specs.declared.utf8.Sequence.{Sequence}
 use Rattle.unicode.specs.declared.utf8.Sequence.the-variants as sequence
 use Rattle.unicode.proofs.Leads.{lead-case}
-use Rattle.unicode.proofs.Groups.{up, six, count-one, count-two, count-three, count-four, count-case}
-use Rattle.unicode.proofs.Puts.{length-count}
+use Rattle.unicode.proofs.Groups.{div-group, shift-group, count-one, count-two, count-three, count-four, count-case}
+use Rattle.unicode.proofs.Puts.{length-encodeOf}
 
 -- one trail byte reads back
 trails-step : (c k n lo hi : ℕ) (rest : List ℕ) → lo ≤ trailByte c k → trailByte c k ≤ hi
     → trailsOf (suc k) lo hi (c / 2 ^ (6 * suc k)) n (trailBytes c (suc k) ++ rest) ≡ trailsOf k 0x80 0xbf (c / 2 ^ (6 * k)) (n + 1) (trailBytes c k ++ rest)
 trails-step c k n lo hi rest a b =
-    pick-yes (between lo hi (trailByte c k)) _ _ (between-yes lo hi (trailByte c k) a b) ∙ simp (six c k)
+    pick-yes (between lo hi (trailByte c k)) _ _ (between-yes⁺ lo hi (trailByte c k) a b) ∙ simp (shift-group c k)
 
 -- k trail bytes read back as the k lowest groups
 trails-read : (c k n : ℕ) (rest : List ℕ) → trailsOf k 0x80 0xbf (c / 2 ^ (6 * k)) n (trailBytes c k ++ rest) ≡ sequence.Scalar c (n + k)
@@ -66,7 +66,7 @@ reads-count c rest s = opens-read c (trailCount c) (leadOf (leadByte c (trailCou
 
 -- an encoding decodes to its code point, whatever bytes stand behind it
 pub utf8-encode-decode : (c : ℕ) (rest : List ℕ) → Scalar c → decodeOne (encodeOf c ++ rest) ≡ sequence.Scalar c (length (encodeOf c))
-utf8-encode-decode c rest s = reads-count c rest s ∙ ap (sequence.Scalar c) (sym (length-count c))
+utf8-encode-decode c rest s = reads-count c rest s ∙ ap (sequence.Scalar c) (sym (length-encodeOf c))
 
 -- what k trail bytes that were read say
 record Back (k lo hi v n : ℕ) (s : List ℕ) (c m : ℕ) : Type 0 where
@@ -84,12 +84,12 @@ trails-back (suc k) lo hi v n [] c m l h e = let z : _≡_ {A = ℕ} 0 1 = cc in
 trails-back (suc k) lo hi v n (x ∷ s) c m l h e =
     pick-case (λ (o : Sequence). o ≡ sequence.Scalar c m → Back (suc k) lo hi v n (x ∷ s) c m) (between lo hi x) _ _
     (λ t q.
-    let w = between-is lo hi x t in
+    let w = between-yes⁻ lo hi x t in
     let r = trails-back k 0x80 0xbf (v * 64 + x % 64) (n + 1) s c m (omega arith) (omega arith) q in
     let f : x ≡ trailByte c k = omega arith in
     let d : suc k - 1 ≡ k = omega arith in
     record {
-      value = omega (arith, up c k);
+      value = omega (arith, div-group c k);
       count = omega arith;
       bytes = ap (λ (y : ℕ). y ∷ s) f ∙ ap (λ (y : List ℕ). trailByte c k ∷ y) (r .bytes);
       first = λ p. rw d (omega arith);
@@ -109,7 +109,7 @@ finish b t k lo hi v c n r s e f =
     let m : n ≡ suc k = omega arith in
     record {
       scalar = s;
-      count = omega (arith, length-count c);
+      count = omega (arith, length-encodeOf c);
       bytes = rw (← e, m) (ap (λ (y : ℕ). y ∷ t) f ∙ ap (λ (y : List ℕ). leadByte c k ∷ y) (r .bytes));
     }
 
@@ -156,7 +156,7 @@ pub reads-within : (s : List ℕ) (c n : ℕ) → decodeOne s ≡ sequence.Scala
 reads-within s c n e =
     let r = utf8-decode-encode s c n e in
     let l : length s ≡ length (encodeOf c) + length (drop n s) = ap length (r .bytes) ∙ length-append (encodeOf c) (drop n s) in
-    record { scalar = r .scalar; some = omega (arith, r .count, length-count c); within = omega (arith, r .count); count = r .count }
+    record { scalar = r .scalar; some = omega (arith, r .count, length-encodeOf c); within = omega (arith, r .count); count = r .count }
 
 -- two scalar values whose encodings begin one list are the same
 pub one-beginning : (c d : ℕ) (r t : List ℕ) → Scalar c → Scalar d → encodeOf c ++ r ≡ encodeOf d ++ t → c ≡ d

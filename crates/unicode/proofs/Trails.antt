@@ -8,34 +8,34 @@ use lib.ListN.{length, getD, drop}
 use lib.Seq.{drop-drop}
 use Rattle.lists.specs.Pick.{pick}
 use Rattle.lists.specs.Between.{between}
-use Rattle.lists.proofs.Laws.{drop-step, drop-end}
+use Rattle.lists.proofs.Laws.{drop-∷, drop-past}
 use Rattle.lists.proofs.Cases.{pick-case, pick-yes, pick-no}
-use Rattle.lists.proofs.Between.{between-yes, between-low, between-high}
+use Rattle.lists.proofs.Between.{between-yes⁺, between-no-low, between-no-high}
 use Rattle.unicode.specs.Utf8.{leadOf, trailsOf, afterLead, decodeOne}
 use Rattle.unicode.specs.declared.utf8.Lead.{Lead}
 use Rattle.unicode.specs.declared.utf8.Sequence.{Sequence}
 use Rattle.unicode.specs.declared.utf8.Sequence.the-variants.{Scalar, Stopped}
 use Rattle.unicode.specs.declared.utf8.Stop.{Stop}
 use Rattle.unicode.specs.declared.utf8.Stop.the-variants.{CutShort, Illegal}
-use Rattle.unicode.proofs.Groups.{up}
+use Rattle.unicode.proofs.Groups.{div-group}
 
 -- one trail byte at a place, by what the tests said
 module _ (lo hi v i : ℕ) (s : List ℕ) where
   pub at-end : length s ≤ i → trailsOf 1 lo hi v i (drop i s) ≡ Stopped CutShort
-  at-end q = rw (drop-end s i q)
+  at-end q = rw (drop-past s i q)
 
   module _ (q : i < length s) where
     at-trail : trailsOf 1 lo hi v i (drop i s) ≡ pick (between lo hi (getD s i 0)) (Scalar (v * 64 + getD s i 0 % 64) (i + 1)) (Stopped (Illegal (i + 1)))
-    at-trail = rw (drop-step s i q)
+    at-trail = rw (drop-∷ s i q)
 
     pub at-good : lo ≤ getD s i 0 → getD s i 0 ≤ hi → trailsOf 1 lo hi v i (drop i s) ≡ Scalar (v * 64 + getD s i 0 % 64) (i + 1)
-    at-good a b = at-trail ∙ pick-yes (between lo hi (getD s i 0)) _ _ (between-yes lo hi (getD s i 0) a b)
+    at-good a b = at-trail ∙ pick-yes (between lo hi (getD s i 0)) _ _ (between-yes⁺ lo hi (getD s i 0) a b)
 
     pub at-low : getD s i 0 < lo → trailsOf 1 lo hi v i (drop i s) ≡ Stopped (Illegal (i + 1))
-    at-low a = at-trail ∙ pick-no (between lo hi (getD s i 0)) _ _ (between-low lo hi (getD s i 0) a)
+    at-low a = at-trail ∙ pick-no (between lo hi (getD s i 0)) _ _ (between-no-low lo hi (getD s i 0) a)
 
     pub at-high : lo ≤ getD s i 0 → hi < getD s i 0 → trailsOf 1 lo hi v i (drop i s) ≡ Stopped (Illegal (i + 1))
-    at-high a b = at-trail ∙ pick-no (between lo hi (getD s i 0)) _ _ (between-high lo hi (getD s i 0) a b)
+    at-high a b = at-trail ∙ pick-no (between lo hi (getD s i 0)) _ _ (between-no-high lo hi (getD s i 0) a b)
 
 -- one more trail byte of s behind what has been read
 abbrev pub behind : Sequence → List ℕ → Sequence
@@ -66,7 +66,7 @@ trails-above zero lo hi v n s c m e = let a : v ≡ c = cc in omega arith
 trails-above (suc k) lo hi v n [] c m e = let z : _≡_ {A = ℕ} 0 1 = cc in absurd (omega arith)
 trails-above (suc k) lo hi v n (x ∷ s) c m e =
     pick-case (λ (o : Sequence). o ≡ Scalar c m → v ≡ c / 2 ^ (6 * suc k)) (between lo hi x) _ _
-    (λ t q. let r = trails-above k 0x80 0xbf (v * 64 + x % 64) (n + 1) s c m q in omega (arith, up c k))
+    (λ t q. let r = trails-above k 0x80 0xbf (v * 64 + x % 64) (n + 1) s c m q in omega (arith, div-group c k))
     (λ t q. let z : _≡_ {A = ℕ} 0 1 = cc in absurd (omega arith))
     e
 

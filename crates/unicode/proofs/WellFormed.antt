@@ -11,11 +11,11 @@ use lib.ListN.{take, drop, length, length-append, take-append-drop}
 use lib.Seq.{length-take-le, take-append-le, take-append-add}
 use Rattle.lists.specs.Order.{All, In}
 use Rattle.lists.specs.Between.{between}
-use Rattle.lists.proofs.Laws.{clash, both, both-left, both-right}
+use Rattle.lists.proofs.Laws.{clash, and-yes, and-left, and-right}
 use Rattle.lists.proofs.Cases.{pick-case, pick-yes}
-use Rattle.lists.proofs.Between.{between-yes, between-is}
+use Rattle.lists.proofs.Between.{between-yes⁺, between-yes⁻}
 use Rattle.unicode.specs.Utf8.{markOf, leadOf, trailsOf, afterLead, decodeOne}
-use Rattle.unicode.specs.WellFormed.{Range, from, rows, matches, anyRow, wellFormed, valueFrom, valueOf, StartsWith, Begins}
+use Rattle.unicode.specs.WellFormed.{Range, from, rows, matches, anyRow, wellFormed, valueFrom, sequenceValue, StartsWith, Begins}
 use Rattle.unicode.specs.declared.utf8.Lead.{Lead}
 use Rattle.unicode.specs.declared.utf8.Lead.the-variants.{Of, Illegal}
 use Rattle.unicode.specs.declared.utf8.Sequence.{Sequence}
@@ -23,7 +23,7 @@ use Rattle.unicode.specs.declared.utf8.Sequence.the-variants.{Scalar, St
 use Rattle.unicode.specs.declared.utf8.Stop.the-variants as stop
 use Rattle.unicode.proofs.Leads.{lead-one, lead-two, lead-e0, lead-ed, lead-three, lead-f0, lead-f4, lead-four, lead-case}
 use Rattle.unicode.proofs.RoundTrip.{reads-within}
-use Rattle.unicode.proofs.MoreInput.{Settled, more-input-same, short-fills}
+use Rattle.unicode.proofs.MoreInput.{NotCutShort, more-input-same, short-fills}
 
 -- some row of a table matches: from one that does, and by cases
 any-in : (row : List Range) (l : List (List Range)) (s : List ℕ) → In row l → matches row s ≡ true → anyRow l s ≡ true
@@ -47,7 +47,7 @@ match-length : (k lo hi : ℕ) (s : List ℕ) → matches (ranges k lo hi) s ≡
 match-length zero lo hi [] e = refl
 match-length zero lo hi (x ∷ s) e = absurd (clash e refl)
 match-length (suc k) lo hi [] e = absurd (clash e refl)
-match-length (suc k) lo hi (x ∷ s) e = ap suc (match-length k 0x80 0xbf s (both-right (between lo hi x) _ e))
+match-length (suc k) lo hi (x ∷ s) e = ap suc (match-length k 0x80 0xbf s (and-right (between lo hi x) _ e))
 
 -- trail bytes at their places are decoded, over the length
 match-reads : (k lo hi v n : ℕ) (s t : List ℕ) → matches (ranges k lo hi) s ≡ true → trailsOf k lo hi v n (s ++ t) ≡ Scalar (valueFrom v s) (n + k)
@@ -55,18 +55,18 @@ match-reads zero lo hi v n [] t e = ap (Scalar v) (omega arith)
 match-reads zero lo hi v n (x ∷ s) t e = absurd (clash e refl)
 match-reads (suc k) lo hi v n [] t e = absurd (clash e refl)
 match-reads (suc k) lo hi v n (x ∷ s) t e =
-    pick-yes (between lo hi x) _ _ (both-left (between lo hi x) _ e)
-    ∙ match-reads k 0x80 0xbf (v * 64 + x % 64) (n + 1) s t (both-right (between lo hi x) _ e)
+    pick-yes (between lo hi x) _ _ (and-left (between lo hi x) _ e)
+    ∙ match-reads k 0x80 0xbf (v * 64 + x % 64) (n + 1) s t (and-right (between lo hi x) _ e)
     ∙ ap (Scalar (valueFrom (v * 64 + x % 64) s)) (omega arith)
 
 -- a row whose lead bytes say what its other places are
 row-reads : (a z k lo hi : ℕ) (s t : List ℕ) → ((b : ℕ) → (a ≤ b) × (b ≤ z) → leadOf b ≡ Of k lo hi (b - markOf k))
-    → matches (from a z ∷ ranges k lo hi) s ≡ true → decodeOne (s ++ t) ≡ Scalar (valueOf s) (length s)
-unfolding decodeOne valueOf
+    → matches (from a z ∷ ranges k lo hi) s ≡ true → decodeOne (s ++ t) ≡ Scalar (sequenceValue s) (length s)
+unfolding decodeOne sequenceValue
 row-reads a z k lo hi [] t f e = absurd (clash e refl)
 row-reads a z k lo hi (b ∷ s) t f e =
-    let m = both-right (between a z b) _ e in
-    let w = between-is a z b (both-left (between a z b) _ e) in
+    let m = and-right (between a z b) _ e in
+    let w = between-yes⁻ a z b (and-left (between a z b) _ e) in
     let n = match-length k lo hi s m in
     ap (λ (l : Lead). afterLead l (s ++ t)) (f b w)
     ∙ match-reads k lo hi (b - markOf k) 1 s t m
@@ -74,10 +74,10 @@ row-reads a z k lo hi (b ∷ s) t f e =
     ∙ ap (Scalar (valueFrom (b - markOf (length s)) s)) (omega arith)
 
 -- a well-formed sequence decodes to its value, whatever bytes stand behind it
-pub well-formed-decodes : (s t : List ℕ) → wellFormed s ≡ true → decodeOne (s ++ t) ≡ Scalar (valueOf s) (length s)
+pub well-formed-decodes : (s t : List ℕ) → wellFormed s ≡ true → decodeOne (s ++ t) ≡ Scalar (sequenceValue s) (length s)
 unfolding wellFormed
 well-formed-decodes s t =
-    any-out (decodeOne (s ++ t) ≡ Scalar (valueOf s) (length s)) rows s (
+    any-out (decodeOne (s ++ t) ≡ Scalar (sequenceValue s) (length s)) rows s (
       row-reads 0x00 0x7f 0 0x80 0xbf s t (λ b h. lead-one b (omega arith)),
       (
         row-reads 0xc2 0xdf 1 0x80 0xbf s t (λ b h. lead-two b (omega arith)),
@@ -123,20 +123,20 @@ reads-match (suc k) lo hi v n (x ∷ s) c m e =
     pick-case (λ (o : Sequence). o ≡ Scalar c m → Placed (suc k) lo hi v n (x ∷ s) c m) (between lo hi x) _ _
     (λ t q.
     let r = reads-match k 0x80 0xbf (v * 64 + x % 64) (n + 1) s c m q in
-    record { within = omega arith; match = both (between lo hi x) _ t (r .match); value = r .value; count = omega arith })
+    record { within = omega arith; match = and-yes (between lo hi x) _ t (r .match); value = r .value; count = omega arith })
     (λ t q. let z : _≡_ {A = ℕ} 0 1 = cc in absurd (omega arith))
     e
 
 reads-row : (a z k lo hi b : ℕ) (t : List ℕ) (c n : ℕ) → In (from a z ∷ ranges k lo hi) rows → (a ≤ b) × (b ≤ z)
     → afterLead (Of k lo hi (b - markOf k)) t ≡ Scalar c n → StartsWith (b ∷ t) c n
-unfolding wellFormed valueOf
+unfolding wellFormed sequenceValue
 reads-row a z k lo hi b t c n i h e =
     let r = reads-match k lo hi (b - markOf k) 1 t c n e in
     let m : n ≡ suc k = omega arith in
     let l : length (take k t) ≡ k = length-take-le k t (r .within) in
     record {
       within = omega arith;
-      formed = rw m (any-in (from a z ∷ ranges k lo hi) rows (b ∷ take k t) i (both (between a z b) _ (between-yes a z b (h .0) (h .1)) (r .match)));
+      formed = rw m (any-in (from a z ∷ ranges k lo hi) rows (b ∷ take k t) i (and-yes (between a z b) _ (between-yes⁺ a z b (h .0) (h .1)) (r .match)));
       value = rw m (ap (λ (j : ℕ). valueFrom (b - markOf j) (take k t)) l ∙ r .value);
     }
 
@@ -171,19 +171,19 @@ pub decodes-well-formed : (s : List ℕ) (c n : ℕ) → (decodeOne s ≡ Scalar
 decodes-well-formed s c n = (decodes-starts s c n, starts-decodes s c n)
 
 -- an answer that cannot be settled is 'cut short'
-unsettled : (o : Sequence) → (Settled o → ⊥) → o ≡ Stopped stop.CutShort
-unsettled (Scalar c n) f = absurd (f (λ e. let z : _≡_ {A = ℕ} 0 1 = cc in omega arith))
-unsettled (Stopped stop.CutShort) f = refl
-unsettled (Stopped (stop.Illegal n)) f = absurd (f (λ e. let z : _≡_ {A = ℕ} 0 1 = cc in omega arith))
-unsettled (Stopped stop.Unassigned) f = absurd (f (λ e. let z : _≡_ {A = ℕ} 0 1 = cc in omega arith))
+is-cut-short : (o : Sequence) → (NotCutShort o → ⊥) → o ≡ Stopped stop.CutShort
+is-cut-short (Scalar c n) f = absurd (f (λ e. let z : _≡_ {A = ℕ} 0 1 = cc in omega arith))
+is-cut-short (Stopped stop.CutShort) f = refl
+is-cut-short (Stopped (stop.Illegal n)) f = absurd (f (λ e. let z : _≡_ {A = ℕ} 0 1 = cc in omega arith))
+is-cut-short (Stopped stop.Unassigned) f = absurd (f (λ e. let z : _≡_ {A = ℕ} 0 1 = cc in omega arith))
 
 begins-short : (s : List ℕ) → Begins s → decodeOne s ≡ Stopped stop.CutShort
 begins-short s g =
-    unsettled (decodeOne s)
+    is-cut-short (decodeOne s)
     (λ o.
     let w = s ++ g .rest in
-    let e : decodeOne w ≡ Scalar (valueOf w) (length w) = ap decodeOne (sym (append-nil w)) ∙ well-formed-decodes w [] (g .formed) in
-    let r = reads-within s (valueOf w) (length w) (sym (more-input-same s (g .rest) o) ∙ e) in
+    let e : decodeOne w ≡ Scalar (sequenceValue w) (length w) = ap decodeOne (sym (append-nil w)) ∙ well-formed-decodes w [] (g .formed) in
+    let r = reads-within s (sequenceValue w) (length w) (sym (more-input-same s (g .rest) o) ∙ e) in
     let l : length w ≡ length s + length (g .rest) = length-append s (g .rest) in
     omega (arith, r .within, g .some))
 
@@ -194,7 +194,7 @@ fills-beyond s t c n e h =
     (λ w.
     let l : n ≤ length s = ltb-false _ _ w in
     let f : wellFormed (take n s) ≡ true = ap wellFormed (sym (take-append-le n s t l)) ∙ h .formed in
-    let d : decodeOne s ≡ Scalar (valueOf (take n s)) (length (take n s)) = ap decodeOne (sym (take-append-drop n s)) ∙ well-formed-decodes (take n s) (drop n s) f in
+    let d : decodeOne s ≡ Scalar (sequenceValue (take n s)) (length (take n s)) = ap decodeOne (sym (take-append-drop n s)) ∙ well-formed-decodes (take n s) (drop n s) f in
     let z : _≡_ {A = ℕ} 0 1 = cc in
     absurd (omega arith))
 

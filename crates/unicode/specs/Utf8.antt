@@ -1,10 +1,15 @@
--- UTF-8 as RFC 3629 has it, over the length: a code point is a lead byte and k trail bytes of six bits each.
+-- UTF-8 (document 01, 'The two pipes': RFC 3629), over the length: a code point is a lead byte and k trail bytes of six
+-- bits each.
+-- Contents: stopNumber; scalar values; what a lead byte says; one sequence decoded (`decodeOne`); a code point encoded
+-- (`encodeOf`), and put into an output slice. Which sequences these are, row by row of RFC 3629's table:
+-- WellFormed.antt.
+-- Cases: proofs/Vectors.antt
 use Prim.Native.Nat.{ℕ, zero, suc, _+_, _-_, _*_, _%_, _/_, _^_, _≤_, _<_}
 use mathlib.Core.List.{List, [], _∷_}
-use mathlib.Core.Bool.{Bool, true, false}
+use mathlib.Core.Bool.{Bool, false}
 use lib.Dec.{ltb, eqb}
 use lib.ListN.{length}
-use Rattle.lists.specs.Pick.{pick}
+use Rattle.lists.specs.Pick.{if_then_else_, _or_}
 use Rattle.lists.specs.Between.{between}
 use Rattle.lists.specs.Place.{fits, placed}
 use Rattle.unicode.specs.declared.utf8.Stop.{Stop}
@@ -29,7 +34,7 @@ pub record Scalar (c : ℕ) : Type 0 where
 
 -- the same as a test
 unfoldable pub isScalar : ℕ → Bool
-isScalar c = pick (ltb c 0xd800) true (pick (ltb c 0xe000) false (ltb c 0x110000))
+isScalar c = ltb c 0xd800 or (if ltb c 0xe000 then false else ltb c 0x110000)
 
 -- what marks a lead byte before k trail bytes
 abbrev pub markOf : ℕ → ℕ
@@ -41,19 +46,23 @@ markOf (suc (suc (suc k))) = 0xf0
 -- what a lead byte says: how many trail bytes follow, the bounds of the first of them, the lead's own bits
 abbrev pub leadOf : ℕ → Lead
 leadOf b =
-    pick (ltb b 0x80) (lead.Of 0 0x80 0xbf (b - markOf 0))
-    (pick (ltb b 0xc2) lead.Illegal
-    (pick (ltb b 0xe0) (lead.Of 1 0x80 0xbf (b - markOf 1))
-    (pick (ltb b 0xf0) (lead.Of 2 (pick (eqb b 0xe0) 0xa0 0x80) (pick (eqb b 0xed) 0x9f 0xbf) (b - markOf 2))
-    (pick (ltb b 0xf5) (lead.Of 3 (pick (eqb b 0xf0) 0x90 0x80) (pick (eqb b 0xf4) 0x8f 0xbf) (b - markOf 3))
-    lead.Illegal))))
+    if ltb b 0x80 then lead.Of 0 0x80 0xbf (b - markOf 0) else
+    if ltb b 0xc2 then lead.Illegal else
+    if ltb b 0xe0 then lead.Of 1 0x80 0xbf (b - markOf 1) else
+    if ltb b 0xf0
+    then lead.Of 2 (if eqb b 0xe0 then 0xa0 else 0x80) (if eqb b 0xed then 0x9f else 0xbf) (b - markOf 2)
+    else
+    if ltb b 0xf5
+    then lead.Of 3 (if eqb b 0xf0 then 0x90 else 0x80) (if eqb b 0xf4 then 0x8f else 0xbf) (b - markOf 3)
+    else lead.Illegal
 
 -- k trail bytes, the first of them from lo to hi, after n bytes that gave v
 abbrev pub trailsOf : ℕ → ℕ → ℕ → ℕ → ℕ → List ℕ → Sequence
 trailsOf zero lo hi v n s = sequence.Scalar v n
 trailsOf (suc k) lo hi v n [] = sequence.Stopped stop.CutShort
 trailsOf (suc k) lo hi v n (x ∷ s) =
-    pick (between lo hi x) (trailsOf k 0x80 0xbf (v * 64 + x % 64) (n + 1) s) (sequence.Stopped (stop.Illegal (n + 1)))
+    if between lo hi x then trailsOf k 0x80 0xbf (v * 64 + x % 64) (n + 1) s else
+    sequence.Stopped (stop.Illegal (n + 1))
 
 -- what follows a lead byte
 abbrev pub afterLead : Lead → List ℕ → Sequence
@@ -67,7 +76,7 @@ decodeOne (b ∷ s) = afterLead (leadOf b) s
 
 -- how many trail bytes a code point takes
 abbrev pub trailCount : ℕ → ℕ
-trailCount c = pick (ltb c 0x80) 0 (pick (ltb c 0x800) 1 (pick (ltb c 0x10000) 2 3))
+trailCount c = if ltb c 0x80 then 0 else if ltb c 0x800 then 1 else if ltb c 0x10000 then 2 else 3
 
 -- the six bits above the k lowest groups of six, as a trail byte
 abbrev pub trailByte : ℕ → ℕ → ℕ
@@ -89,8 +98,10 @@ encodeOf c = leadByte c (trailCount c) ∷ trailBytes c (trailCount c)
 -- the answer of encoding c into old from at on (a conversion gives Full the number 50)
 unfoldable pub encodeAnswer : ℕ → List ℕ → ℕ → Put
 encodeAnswer c old at =
-    pick (isScalar c) (pick (fits old at (encodeOf c)) (put.Done (length (encodeOf c))) put.Full) put.NotScalar
+    if isScalar c then (if fits old at (encodeOf c) then put.Bytes (length (encodeOf c)) else put.NoRoom) else
+    put.NotScalar
 
 -- old after encoding c into it from at on
 unfoldable pub encodeInto : ℕ → List ℕ → ℕ → List ℕ
-encodeInto c old at = pick (isScalar c) (pick (fits old at (encodeOf c)) (placed old at (encodeOf c)) old) old
+encodeInto c old at =
+    if isScalar c then (if fits old at (encodeOf c) then placed old at (encodeOf c) else old) else old

@@ -1,10 +1,11 @@
--- Well-formed UTF-8 by RFC 3629's own table, row by row, apart from how a sequence is decoded.
+-- Well-formed UTF-8 by RFC 3629's own table (document 01, 'The two pipes': lead 00-7F; C2-DF; E0 then A0-BF; ..), row
+-- by row, apart from how a sequence is decoded. That the two agree: proofs/WellFormed.antt.
 use Prim.Native.Nat.{ℕ, _+_, _-_, _*_, _%_, _≤_, _<_}
 use mathlib.Core.Path.{_≡_}
 use mathlib.Core.List.{List, [], _∷_, _++_}
 use mathlib.Core.Bool.{Bool, true, false}
 use lib.ListN.{length, take}
-use Rattle.lists.specs.Pick.{pick}
+use Rattle.lists.specs.Pick.{_and_, _or_}
 use Rattle.lists.specs.Between.{between}
 use Rattle.unicode.specs.Utf8.{markOf}
 
@@ -39,12 +40,12 @@ abbrev pub matches : List Range → List ℕ → Bool
 matches [] [] = true
 matches [] (b ∷ s) = false
 matches (r ∷ row) [] = false
-matches (from lo hi ∷ row) (b ∷ s) = pick (between lo hi b) (matches row s) false
+matches (from lo hi ∷ row) (b ∷ s) = between lo hi b and matches row s
 
 -- some row matches
 abbrev pub anyRow : List (List Range) → List ℕ → Bool
 anyRow [] s = false
-anyRow (row ∷ rest) s = pick (matches row s) true (anyRow rest s)
+anyRow (row ∷ rest) s = matches row s or anyRow rest s
 
 -- one whole well-formed sequence
 unfoldable pub wellFormed : List ℕ → Bool
@@ -56,15 +57,15 @@ valueFrom v [] = v
 valueFrom v (x ∷ s) = valueFrom (v * 64 + x % 64) s
 
 -- the value of a sequence: the lead byte without its mark, then six bits of each trail byte
-unfoldable pub valueOf : List ℕ → ℕ
-valueOf [] = 0
-valueOf (b ∷ s) = valueFrom (b - markOf (length s)) s
+unfoldable pub sequenceValue : List ℕ → ℕ
+sequenceValue [] = 0
+sequenceValue (b ∷ s) = valueFrom (b - markOf (length s)) s
 
 -- the first n bytes of s are one whole well-formed sequence, and c is its value
 pub record StartsWith (s : List ℕ) (c n : ℕ) : Type 0 where
   pub within : n ≤ length s
   pub formed : wellFormed (take n s) ≡ true
-  pub value : valueOf (take n s) ≡ c
+  pub value : sequenceValue (take n s) ≡ c
 
 -- s is a proper beginning of a well-formed sequence
 pub record Begins (s : List ℕ) : Type 0 where

@@ -2,24 +2,28 @@
 ghost use mathlib.Core.Path.{_≡_};
 ghost use Prim.Native.Nat.{ℕ, suc, _+_, _*_, _%_, _^_, _≤_, _<_};
 ghost use lib.ListN.{drop};
-ghost use Rattle.unicode.specs.Utf8.{isScalar, stopNumber, markOf, leadOf, trailsOf, decodeOne, trailCount, trailByte, leadByte, encodeAnswer, encodeInto};
+ghost use Rattle.unicode.specs.Utf8.{isScalar, stopNumber, markOf, leadOf, trailsOf, decodeOne, trailCount};
+ghost use Rattle.unicode.specs.Utf8.{trailByte, leadByte, encodeAnswer, encodeInto};
+ghost use Rattle.unicode.specs.declared.utf8.Lead.the-variants.{Of};
 ghost use Rattle.unicode.specs.declared.utf8.Sequence.the-variants.{Scalar};
 
-// Why a sequence gives no scalar value. An illegal one has a length: up to and including the byte that made it so.
-// Only a conversion, which knows a table, makes Unassigned.
+// Why a sequence gives no scalar value, by number.
 pub enum Stop {
+    // 51: the input ends inside the sequence. Put the next bytes after it and call again; at the input's end, give up.
     CutShort,
+    // 52: the sequence is illegal. Its length goes up to and including the byte that made it so: skip that many bytes.
     Illegal(usize),
+    // 53, from a conversion only: the table has no mapping for it. Substitute, or skip the sequence.
     Unassigned,
 }
 
-// What one sequence gives: a scalar value and how many bytes it took, or a stop.
+// The outcome of one sequence: a scalar value and the count of its bytes, or a stop.
 pub enum Sequence {
     Scalar(u32, usize),
     Stopped(Stop),
 }
 
-// What a lead byte says: how many trail bytes follow, the bounds of the first of them, and the lead's own bits.
+// The meaning of a lead byte: the count of trail bytes, the bounds of the first of them, and the lead's own bits.
 pub enum Lead {
     Of {
         trails: usize,
@@ -30,11 +34,13 @@ pub enum Lead {
     Illegal,
 }
 
-// What encoding gives: how many bytes were put, that they do not fit (for which a conversion answers 50), or that the
-// number is no scalar value.
+// The outcome of encoding.
 pub enum Put {
-    Done(usize),
-    Full,
+    // So many bytes are written. Go on after them.
+    Bytes(usize),
+    // The bytes do not fit, and nothing is written; a conversion answers 50. Encode again with more room.
+    NoRoom,
+    // The number is no scalar value, and nothing is written.
     NotScalar,
 }
 
@@ -62,65 +68,38 @@ pub fn is_scalar(c: u32) -> bool
     c < 0x110000
 }
 
+// A byte as a number of 32 bits.
 fn wide(x: u8) -> u32
     ensures { λ r. ⌜ r ≡ x ⌝ }
 {
     x as u32
 }
 
-// The decision on the lead byte, by ranges.
+// A legal lead byte: the count of trail bytes, the lowest and the highest first trail byte, and its own bits.
+fn legal(trails: usize, lo: u8, hi: u8, top: u32) -> Lead
+    ensures { λ r. ⌜ r ≡ Of trails lo hi top ⌝ }
+{
+    Lead::Of {
+        trails,
+        lo,
+        hi,
+        top,
+    }
+}
+
+// The meaning of a lead byte, by ranges: the table of RFC 3629.
 pub fn lead_of(b: u8) -> Lead
     ensures { λ r. ⌜ r ≡ leadOf b ⌝ }
 {
     match b {
-        0x00..=0x7f => Lead::Of {
-            trails: 0,
-            lo: 0x80,
-            hi: 0xbf,
-            top: wide(b),
-        },
-        0xc2..=0xdf => Lead::Of {
-            trails: 1,
-            lo: 0x80,
-            hi: 0xbf,
-            top: wide(b) & 0x1f,
-        },
-        0xe0 => Lead::Of {
-            trails: 2,
-            lo: 0xa0,
-            hi: 0xbf,
-            top: wide(b) & 0x0f,
-        },
-        0xe1..=0xec | 0xee..=0xef => Lead::Of {
-            trails: 2,
-            lo: 0x80,
-            hi: 0xbf,
-            top: wide(b) & 0x0f,
-        },
-        0xed => Lead::Of {
-            trails: 2,
-            lo: 0x80,
-            hi: 0x9f,
-            top: wide(b) & 0x0f,
-        },
-        0xf0 => Lead::Of {
-            trails: 3,
-            lo: 0x90,
-            hi: 0xbf,
-            top: wide(b) & 0x07,
-        },
-        0xf1..=0xf3 => Lead::Of {
-            trails: 3,
-            lo: 0x80,
-            hi: 0xbf,
-            top: wide(b) & 0x07,
-        },
-        0xf4 => Lead::Of {
-            trails: 3,
-            lo: 0x80,
-            hi: 0x8f,
-            top: wide(b) & 0x07,
-        },
+        0x00..=0x7f => legal(0, 0x80, 0xbf, wide(b)),
+        0xc2..=0xdf => legal(1, 0x80, 0xbf, wide(b) & 0x1f),
+        0xe0 => legal(2, 0xa0, 0xbf, wide(b) & 0x0f),
+        0xe1..=0xec | 0xee..=0xef => legal(2, 0x80, 0xbf, wide(b) & 0x0f),
+        0xed => legal(2, 0x80, 0x9f, wide(b) & 0x0f),
+        0xf0 => legal(3, 0x90, 0xbf, wide(b) & 0x07),
+        0xf1..=0xf3 => legal(3, 0x80, 0xbf, wide(b) & 0x07),
+        0xf4 => legal(3, 0x80, 0x8f, wide(b) & 0x07),
         _ => Lead::Illegal,
     }
 }
@@ -158,7 +137,7 @@ fn trail_at(s: &[u8], i: usize, lo: u8, hi: u8, v: u32) -> Sequence
     Sequence::Scalar(put_six(v, x), i + 1)
 }
 
-// One more trail byte behind those that have been read; a stop stays as it is.
+// One more trail byte after the bytes that `read` took; a stop stays as it is.
 fn trail_behind(s: &[u8], read: Sequence) -> Sequence
     requires { ⌜ ((v i : ℕ) → read ≡ Scalar v i → v < 2 ^ 26) ⌝ }
     ensures { λ r. ⌜ ((k lo hi v : ℕ) → read ≡ trailsOf (suc k) lo hi v 1 (drop 1 (now (s .entry)))
@@ -170,7 +149,7 @@ fn trail_behind(s: &[u8], read: Sequence) -> Sequence
     }
 }
 
-// The trail bytes behind the first byte of `s`, the first of them from `lo` to `hi`, each putting six bits under `top`.
+// The trail bytes after the first byte of `s`, the first of them from `lo` to `hi`, each putting six bits under `top`.
 fn trails_of(s: &[u8], trails: usize, lo: u8, hi: u8, top: u32) -> Sequence
     requires { ⌜ (trails ≤ 3) × (top < 128) ⌝ }
     ensures { λ r. ⌜ r ≡ trailsOf trails lo hi top 1 (drop 1 (now (s .entry))) ⌝ }
@@ -228,7 +207,7 @@ fn trail_count(c: u32) -> usize
     3
 }
 
-// What marks a lead byte before `k` trail bytes.
+// The mark of a lead byte before `k` trail bytes.
 fn mark(k: usize) -> u32
     requires { ⌜ k ≤ 3 ⌝ }
     ensures { λ r. ⌜ r ≡ markOf k ⌝ }
@@ -257,32 +236,33 @@ fn trail_byte(c: u32, k: usize) -> u8
     (0x80 | low_six(c >> (6 * k))) as u8
 }
 
-// The code point's bytes, put into `out` from `at` on where it is a scalar value and they fit; else `out` is as it was.
+// Writes a scalar value's bytes into `out` from `at` on if they fit; otherwise `out` stays as it was.
 pub fn encode(c: u32, out: &mut [u8], at: usize) -> Put
-    ensures { λ r. ⌜ (r ≡ encodeAnswer c (now (out .entry)) at) × (now (out .exit) ≡ encodeInto c (now (out .entry)) at) ⌝ }
+    ensures { λ r. ⌜ (r ≡ encodeAnswer c (now (out .entry)) at)
+        × (now (out .exit) ≡ encodeInto c (now (out .entry)) at) ⌝ }
 {
     if !is_scalar(c) {
         return Put::NotScalar;
     }
     let trails = trail_count(c);
     if out.len() <= trails {
-        return Put::Full;
+        return Put::NoRoom;
     }
     if out.len() - trails <= at {
-        return Put::Full;
+        return Put::NoRoom;
     }
     out[at] = lead_byte(c, trails);
     if trails == 0 {
-        return Put::Done(1);
+        return Put::Bytes(1);
     }
     out[at + 1] = trail_byte(c, trails - 1);
     if trails == 1 {
-        return Put::Done(2);
+        return Put::Bytes(2);
     }
     out[at + 2] = trail_byte(c, trails - 2);
     if trails == 2 {
-        return Put::Done(3);
+        return Put::Bytes(3);
     }
     out[at + 3] = trail_byte(c, 0);
-    Put::Done(4)
+    Put::Bytes(4)
 }

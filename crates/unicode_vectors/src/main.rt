@@ -2,7 +2,8 @@
 //
 // A line for each sequence: the bytes left, the answer's number, the value and the length ('-' for none), and what
 // encoding the value gives in six bytes 2a from place 1 on.
-// Then a line for each code point, place and room: what encoding it there gives ('none': no scalar value), and the six bytes.
+// Then a line for each code point, place and room: what encoding it there gives ('none': no scalar value), and the six
+// bytes.
 use unicode::utf8;
 ghost use mathlib.Core.Path.{_≡_};
 ghost use Prim.Native.Nat.{_≤_};
@@ -32,10 +33,10 @@ fn print_put_in(c: u32, at: usize, room: usize, out: &mut [u8]) {
     }
     let put = utf8::encode(c, &mut out[..room], at);
     match put {
-        utf8::Put::Done(n) => {
+        utf8::Put::Bytes(n) => {
             io::print_decimal(1, n as u64);
         }
-        utf8::Put::Full => {
+        utf8::Put::NoRoom => {
             io::write_all(1, b"full");
         }
         utf8::Put::NotScalar => {
@@ -107,7 +108,7 @@ fn decode_lines(s: &[u8]) {
     }
 }
 
-// Decodes each of the vectors in `s`, which stand one after the other, each behind its length.
+// Decodes each of the vectors in `s`, which stand one after the other, each after its length.
 fn decode_all(s: &[u8]) {
     let mut at = 0;
     while at < s.len() {
@@ -155,7 +156,7 @@ fn bounds() {
     decode_all(b"\x04\xf3\xbf\xbf\xbf\x04\xf4\x80\x80\x80\x04\xf4\x8f\xbf\xbf");
 }
 
-// The other side of each bound of a lead byte and of the byte behind it.
+// The other side of each bound of a lead byte and of the byte after it.
 fn beyond_bounds() {
     decode_all(b"\x01\x80\x01\xbf\x02\xc0\x80\x02\xc0\xad\x02\xc1\xbf\x03\xe0\x80\x80");
     decode_all(b"\x03\xe0\x9f\xbf\x03\xed\xa0\x80\x03\xed\xbf\xbf\x04\xf0\x80\x80\x80");

@@ -7,12 +7,6 @@ use Rattle.cabi.proofs.oboepond_check.Tie as tie
 returns : tie.Need-returns
 returns c = sym (unchecked _ _ (c .if1 .taken))
 
-record-in-requires : tie.Need-record-in-requires
-record-in-requires c κs = search needs
-
-memory-valid-requires : tie.Need-memory-valid-requires
-memory-valid-requires c κs = search needs
-
 returns-2 : tie.Need-returns-2
 returns-2 c =
     let e = rw (c .before .before .record-in .ensures) at (c .before .memory-valid .ensures) in
@@ -25,4 +19,4 @@ returns-3 c =
 
 pub oboepond-check-spec : {M : Type 1} → statement M
 oboepond-check-spec =
-    tie.close (tie.spec returns record-in-requires memory-valid-requires returns-2 returns-3)
+    tie.close (tie.spec returns (λ c κs. search needs) (λ c κs. search needs) returns-2 returns-3)

@@ -1,8 +1,8 @@
 use mathlib.Core.List.{[], _∷_}
 use mathlib.Core.Path.{sym, ap, _∙_}
 use borrow.Author.Needs.{needs}
-use Rattle.convert.specs.declared.Done.{Done}
-use Rattle.convert.specs.Run.{haltNumber}
+use Rattle.convert.specs.declared.Converted.{Converted}
+use Rattle.convert.specs.Run.{endNumber}
 use Rattle.cabi.specs.Exported.{withNumbers}
 use Rattle.cabi.proofs.Lengths.{short-record, short-result, long-enough}
 use Rattle.cabi.proofs.oboepond_to_utf8.Statement.{statement}
@@ -25,41 +25,24 @@ returns-2 c =
       sym (short-result 2 _ _ _ _ p q),
     )
 
-record-in-requires : tie.Need-record-in-requires
-record-in-requires c κs = search needs
-
-to-utf8-requires : tie.Need-to-utf8-requires
-to-utf8-requires c κs = search needs
-
-put-done-requires : tie.Need-put-done-requires
-put-done-requires c κs = search needs
-
-same-length : tie.Need-same-length
-same-length c = search needs
-
-same-length-2 : tie.Need-same-length-2
-same-length-2 c = search needs
-
 returns-3 : tie.Need-returns-3
 returns-3 c =
-    let p = c .before .before .before .before .before .before .before .before .before .before .if1 .left in
-    let q = c .before .before .before .before .before .before .before .before .before .if2 .left in
-    let d = rw (c .before .before .before .before .before .before .before .before .record-in .ensures) at (c .before .before .before .before .before .before .to-utf8 .ensures .0) in
-    let o = rw (c .before .before .before .before .before .before .before .before .record-in .ensures) at (c .before .before .before .before .before .before .to-utf8 .ensures .1) in (
-      c .before .before .put-done .ensures .0 ∙ ap (λ (x : Done). haltNumber (x .halt)) d ∙ sym (long-enough 2 _ _ _ _ p q),
+    let after-to-utf8 = c .before .before .before .before .before .before in
+    let else1 = after-to-utf8 .before .before .before .before in
+    let entry = else1 .before .before .before .before .before .before .before .before .before in
+    let p = else1 .if1 .left in
+    let q = after-to-utf8 .before .before .before .if2 .left in
+    let d = rw (after-to-utf8 .before .before .record-in .ensures) at (after-to-utf8 .to-utf8 .ensures .0) in
+    let o = rw (after-to-utf8 .before .before .record-in .ensures) at (after-to-utf8 .to-utf8 .ensures .1) in (
+      c .before .before .put-done .ensures .0 ∙ ap (λ (x : Converted). endNumber (x .end)) d ∙ sym (long-enough 2 _ _ _ _ p q),
       o ∙ sym (long-enough 2 _ _ _ _ p q),
-      c .before .before .put-done .ensures .1 ∙ ap (λ (x : Done). withNumbers (x .read ∷ x .written ∷ []) (c .before .before .before .before .before .before .before .before .before .before .before .before .before .before .before .before .before .before .before .args .result .now)) d ∙ sym (long-enough 2 _ _ _ _ p q),
+      c .before .before .put-done .ensures .1
+          ∙ ap (λ (x : Converted). withNumbers (x .read ∷ x .written ∷ []) (entry .args .result .now)) d
+          ∙ sym (long-enough 2 _ _ _ _ p q),
     )
 
 pub oboepond-to-utf8-spec : {M : Type 1} → statement M
 oboepond-to-utf8-spec =
     tie.close
-    (tie.spec
-    returns
-    returns-2
-    record-in-requires
-    to-utf8-requires
-    put-done-requires
-    same-length
-    same-length-2
-    returns-3)
+    (tie.spec returns returns-2 (λ c κs. search needs) (λ c κs. search needs) (λ c κs. search needs)
+    (λ c. search needs) (λ c. search needs) returns-3)

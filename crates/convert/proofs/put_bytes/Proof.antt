@@ -1,5 +1,4 @@
--- `put_bytes` meets its contract. The invariant: storing the bytes left gives what storing all of them gives. The measure:
--- the bytes left.
+-- Invariant: storing the bytes left gives what storing all of them gives. Measure: the bytes left.
 use borrow.Author.Needs.{needs}
 use Prim.Native.Nat.{_+_, _<_, _≤_}
 use mathlib.Core.Path.{_≡_, refl, sym, _∙_}
@@ -12,7 +11,9 @@ use Rattle.convert.proofs.put_bytes.Statement.{statement}
 use Rattle.convert.proofs.put_bytes.Tie as tie
 
 abbrev Inv-loop : tie.InvT-loop
-Inv-loop bits n out₀ at k₀ i₀ v₀ out k i v = (sets out i (unpacked k v) ≡ sets out₀ i₀ (unpacked k₀ v₀)) × (i + k ≡ i₀ + k₀) × (length out ≡ length out₀) × (k ≤ k₀) × (v < 4294967296)
+Inv-loop bits n out₀ at k₀ i₀ v₀ out k i v =
+    (sets out i (unpacked k v) ≡ sets out₀ i₀ (unpacked k₀ v₀)) × (i + k ≡ i₀ + k₀) × (length out ≡ length out₀) ×
+    (k ≤ k₀) × (v < 4294967296)
 
 abbrev μ-loop : tie.MeasureT-loop
 μ-loop bits n out₀ at k₀ i₀ v₀ out k i v = k
@@ -23,23 +24,19 @@ loop-holds c = (refl, refl, refl, omega arith, omega arith)
 cast-out : tie.Need-cast-out Inv-loop μ-loop
 cast-out c = omega arith
 
-slice-write-out : tie.Need-slice-write-out Inv-loop μ-loop
-slice-write-out c = search needs
-
 mul-v : tie.Need-mul-v Inv-loop μ-loop
 mul-v c = omega arith
 
-sub-k : tie.Need-sub-k Inv-loop μ-loop
-sub-k c = search needs
-
-add-i : tie.Need-add-i Inv-loop μ-loop
-add-i c = search needs
-
-loop-less : tie.Need-loop-less Inv-loop μ-loop
-loop-less c = search needs
-
 loop-again : tie.Need-loop-again Inv-loop μ-loop
-loop-again c = let l = c .before .loop in (sym (put-one (l .out) (l .i) (l .k) (l .v) (omega arith)) ∙ l .inv .0, omega arith, length-set (l .out) (l .i) _ ∙ l .inv .2, omega arith, omega arith)
+loop-again c =
+    let l = c .before .loop in (
+      sym (put-one (l .out) (l .i) (l .k) (l .v) (omega arith)) ∙ l .inv .0,
+      omega arith,
+      length-set (l .out) (l .i) _
+          ∙ l .inv .2,
+      omega arith,
+      omega arith,
+    )
 
 same-length : tie.Need-same-length Inv-loop μ-loop
 same-length c = c .before .loop .inv .2
@@ -50,16 +47,5 @@ returns c = let l = c .before .loop in sym (put-none (l .out) (l .i) (l .k) (l .
 pub put-bytes-spec : {M : Type 1} → statement M
 put-bytes-spec =
     tie.close
-    (tie.spec
-    Inv-loop
-    μ-loop
-    loop-holds
-    cast-out
-    slice-write-out
-    mul-v
-    sub-k
-    add-i
-    loop-less
-    loop-again
-    same-length
-    returns)
+    (tie.spec Inv-loop μ-loop loop-holds cast-out (λ c. search needs) mul-v (λ c. search needs)
+    (λ c. search needs) (λ c. search needs) loop-again same-length returns)

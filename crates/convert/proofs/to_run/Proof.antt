@@ -1,12 +1,11 @@
--- `to_run` meets its contract. The invariant: the run from here, after what is read and written, is the whole run. The
--- measure: the input left.
+-- Invariant: the run from here, after what is read and written, is the whole run. Measure: the input left.
 use mathlib.Core.Path.{_≡_, sym, ap, _∙_}
 use Prim.Native.Nat.{ℕ, _+_, _-_, _<_}
 use mathlib.Core.List.{List}
 use native.Mathlib.Omega.{arith}
 use lib.ListN.{length, drop}
 use Rattle.lists.specs.Order.{All}
-use Rattle.lists.proofs.AllPlaces.{all-places}
+use Rattle.lists.proofs.AllPlaces.{All-getD⁺}
 use Rattle.unicode.specs.Utf8.{Scalar, encodeOf}
 use Rattle.unicode.specs.declared.utf8.Sequence.{Sequence}
 use Rattle.unicode.specs.declared.utf8.Sequence.the-variants as sequence
@@ -16,65 +15,92 @@ use Rattle.table.specs.Meaning.{Table}
 use Rattle.table.specs.Slices.{slices}
 use Rattle.table.specs.Memory.{tableIn}
 use Rattle.table.proofs.ValidLaws.{valid-table}
-use Rattle.convert.specs.Run.{Step}
+use Rattle.convert.specs.Run.{SequenceStep}
 use Rattle.convert.specs.Step.{utf8, toSequence, encoded, toStep}
-use Rattle.convert.proofs.Runs.{Going, begin, turn, ends-all, ends-stop, ends-full, rest-is}
+use Rattle.convert.proofs.Runs.{Going, run-start, run-turn, ends-all, ends-stop, ends-full}
+use Rattle.lists.proofs.Parts.{take-drop-all}
 use Rattle.convert.proofs.Steps.{to-sound, to-scalar, to-gives}
 use borrow.Author.Needs.{needs}
 use Rattle.convert.proofs.to_run.Statement.{statement}
 use Rattle.convert.proofs.to_run.Tie as tie
 
 abbrev Inv-loop : tie.InvT-loop
-Inv-loop rec states codes infos order hints input out₀ settings at₀ w₀ out at w = Going (toStep utf8 (tableIn rec (slices states codes infos order)) settings) 0 input out₀ out 0 at w
+Inv-loop rec states codes infos order hints input out₀ settings at₀ w₀ out at w =
+    Going (toStep utf8 (tableIn rec (slices states codes infos order)) settings) 0 input out₀ out 0 at w
 
 abbrev μ-loop : tie.MeasureT-loop
 μ-loop rec states codes infos order hints input out₀ settings at₀ w₀ out at w = length input - at
 
+abbrev entry : tie.After-slice-known Inv-loop μ-loop → tie.Start Inv-loop μ-loop
+entry c = c .before .before .before .before .before .before .before
+
+abbrev entry-2 : tie.After-to-step Inv-loop μ-loop → tie.Start Inv-loop μ-loop
+entry-2 c = entry (c .before .before .before .before)
+
+abbrev after-shared-slice-known2 : tie.After-to-step Inv-loop μ-loop → tie.After-shared-slice-known2 Inv-loop μ-loop
+after-shared-slice-known2 c = c .before .before .before .before .before .before .before .before .before
+
+abbrev after-sequence2 : tie.After-slice-known2 Inv-loop μ-loop → tie.After-sequence2 Inv-loop μ-loop
+after-sequence2 c = c .before .before .before .before .before
+
+abbrev after-sequence2-2 : tie.After-known-told3 Inv-loop μ-loop → tie.After-sequence2 Inv-loop μ-loop
+after-sequence2-2 c = after-sequence2 (c .before .before .before)
+
+abbrev after-encode : tie.After-known-told3 Inv-loop μ-loop → tie.After-encode Inv-loop μ-loop
+after-encode c = c .before .before .before .before .before
+
 -- the table, the step and the rest of the input at a turn
 abbrev tableAt : tie.After-to-step Inv-loop μ-loop → Table
-tableAt d = let a = d .before .before .before .before .before .before .before .before .before .before .before .args in tableIn (a .rec) (slices (a .states .now) (a .codes .now) (a .infos .now) (a .order .now))
+tableAt d = let a = entry-2 d .args in tableIn (a .rec) (slices (a .states .now) (a .codes .now) (a .infos .now) (a .order .now))
 
-abbrev stepAt : tie.After-to-step Inv-loop μ-loop → Step
-stepAt d = toStep utf8 (tableAt d) (d .before .before .before .before .before .before .before .before .before .before .before .args .settings)
+abbrev stepAt : tie.After-to-step Inv-loop μ-loop → SequenceStep
+stepAt d = toStep utf8 (tableAt d) (entry-2 d .args .settings)
 
 abbrev restAt : tie.After-to-step Inv-loop μ-loop → List ℕ
-restAt d = drop (d .before .before .before .loop .at) (d .before .before .before .before .before .before .before .before .before .before .before .args .input .now)
+restAt d = drop (d .before .before .before .loop .at) (entry-2 d .args .input .now)
 
 -- what the rest begins with, and gives
 sequenceAt : (d : tie.After-to-step Inv-loop μ-loop)
-    → d .to-step .result ≡ toSequence (tableAt d) (d .before .before .before .before .before .before .before .before .before .before .before .args .settings) 0 (restAt d)
+    → d .to-step .result ≡ toSequence (tableAt d) (entry-2 d .args .settings) 0 (restAt d)
 sequenceAt d =
-    let a = d .before .before .before .before .before .before .before .before .before .before .before .args in
-    d .to-step .ensures (a .order .now) (d .before .before .before .before .before .before .before .before .before .before .before .pre)
-    ∙ ap (toSequence (tableAt d) (a .settings) 0) (rest-is (a .input .now) (d .before .before .before .loop .at))
+    let a = entry-2 d .args in
+    d .to-step .ensures (a .order .now) (entry-2 d .pre)
+    ∙ ap (toSequence (tableAt d) (a .settings) 0) (take-drop-all (a .input .now) (d .before .before .before .loop .at))
 
 gaveAt : (d : tie.After-to-step Inv-loop μ-loop) (x : Sequence) → d .to-step .result ≡ x → stepAt d 0 (restAt d) ≡ encoded utf8 0 x
-gaveAt d x e = to-gives (tableAt d) (d .before .before .before .before .before .before .before .before .before .before .before .args .settings) 0 utf8 (restAt d) x (sym (sequenceAt d) ∙ e)
+gaveAt d x e = to-gives (tableAt d) (entry-2 d .args .settings) 0 utf8 (restAt d) x (sym (sequenceAt d) ∙ e)
 
 -- T6: a scalar value
 scalarAt : (d : tie.After-to-step Inv-loop μ-loop) (x n : ℕ) → d .to-step .result ≡ sequence.Scalar x n → Scalar x
 scalarAt d x n e =
-    let a = d .before .before .before .before .before .before .before .before .before .before .before .args in
-    let small : All (λ y. y < 4294967296) (a .codes .now) = all-places (λ y. y < 4294967296) (a .codes .now) 0 (λ i. d .before .before .before .before .before .before .before .before .before .shared-slice-known2 .given i .fits) in
-    let k = valid-table limits (a .rec) (slices (a .states .now) (a .codes .now) (a .infos .now) (a .order .now)) (d .before .before .before .before .before .before .before .before .before .before .before .pre) small (omega (arith, d .before .before .before .before .before .before .before .before .before .before .before .good .0)) in
+    let a = entry-2 d .args in
+    let small : All (λ y. y < 4294967296) (a .codes .now) = All-getD⁺ (λ y. y < 4294967296) (a .codes .now) 0
+    (λ i. after-shared-slice-known2 d .shared-slice-known2 .given i .fits) in
+    let k = valid-table limits (a .rec) (slices (a .states .now) (a .codes .now) (a .infos .now) (a .order .now))
+    (entry-2 d .pre) small (omega (arith, entry-2 d .good .0)) in
     to-scalar (tableAt d) (a .settings) 0 (restAt d) x n (k .1 .rule6) (sym (sequenceAt d) ∙ e)
 
 -- the turn is over
-nextAt : (c : tie.After-known-told3 Inv-loop μ-loop) → let d = c .before .before .before .before .before .before .before .before .before .before in
-    Going (stepAt d) 0 (d .before .before .before .before .before .before .before .before .before .before .before .args .input .now) (d .before .before .before .before .before .before .before .before .before .before .before .args .out .now) (c .before .before .before .before .before .encode .last .1 .0) 0 (d .before .before .before .loop .at + c .before .before .before .before .before .before .before .before .sequence2 .given .0 .1 .0) (d .before .before .before .loop .w + c .before .put .given .0 .0)
+nextAt : (c : tie.After-known-told3 Inv-loop μ-loop) → let d = after-sequence2-2 c .before .before in
+    Going (stepAt d) 0 (entry-2 d .args .input .now) (entry-2 d .args .out .now)
+    (after-encode c .encode .last .1 .0) 0
+    (d .before .before .before .loop .at + after-sequence2-2 c .sequence2 .given .0 .1 .0)
+    (d .before .before .before .loop .w + c .before .put .given .0 .0)
 nextAt c =
-    let d = c .before .before .before .before .before .before .before .before .before .before in
+    let d = after-sequence2-2 c .before .before in
     let q = d .before .before .before .loop in
-    let k = c .before .before .before .before .before .before .before .before .sequence2 .given in
-    let x = c .before .before .before .before .before .encode in
+    let k = after-sequence2-2 c .sequence2 .given in
+    let x = after-encode c .encode in
     let p = put-done (k .0 .0) (q .out) (q .w) (c .before .put .given .0 .0) (sym (c .before .put .given .1) ∙ x .ensures .0) in
-    turn (q .inv) (d .before .before .loop-test .taken) (encodeOf (k .0 .0)) (k .0 .1 .0) 0 (gaveAt d (sequence.Scalar (k .0 .0) (k .0 .1 .0)) (k .1))
-    (to-sound utf8 (tableAt d) (d .before .before .before .before .before .before .before .before .before .before .before .args .settings)) (c .before .put .given .0 .0) (x .last .1 .0) (p .count) (p .within) (x .ensures .1 ∙ p .bytes)
+    run-turn (q .inv) (d .before .before .loop-test .taken) (encodeOf (k .0 .0)) (k .0 .1 .0) 0 (gaveAt d (sequence.Scalar (k .0 .0) (k .0 .1 .0)) (k .1))
+    (to-sound utf8 (tableAt d) (entry-2 d .args .settings)) (c .before .put .given .0 .0) (x .last .1 .0) (p .count) (p .within) (x .ensures .1 ∙ p .bytes)
 
 loop-holds : tie.Need-loop-holds Inv-loop μ-loop
 loop-holds c =
-    let a = c .before .before .before .before .before .before .before .args in
-    begin (toStep utf8 (tableIn (a .rec) (slices (a .states .now) (a .codes .now) (a .infos .now) (a .order .now))) (a .settings)) 0 (a .input .now) (a .out .now)
+    let a = entry c .args in
+    run-start (toStep utf8 (tableIn (a .rec)
+    (slices (a .states .now) (a .codes .now) (a .infos .now) (a .order .now))) (a .settings)) 0 (a .input .now)
+    (a .out .now)
 
 sub-to-step : tie.Need-sub-to-step Inv-loop μ-loop
 sub-to-step c = omega arith
@@ -85,111 +111,68 @@ part-to-step-start c = omega arith
 part-to-step-end : tie.Need-part-to-step-end Inv-loop μ-loop
 part-to-step-end c = omega arith
 
-to-step-requires : tie.Need-to-step-requires Inv-loop μ-loop
-to-step-requires c κs = search needs
-
-enum-known-sequence : tie.Need-enum-known-sequence Inv-loop μ-loop
-enum-known-sequence c = search needs
-
-same-length : tie.Need-same-length Inv-loop μ-loop
-same-length c = search needs
-
 returns : tie.Need-returns Inv-loop μ-loop
 returns c =
-    let d = c .before .before .before in
-    ends-stop (d .before .before .before .loop .inv) (d .before .before .loop-test .taken) (c .before .sequence .given .0 .0) (gaveAt d (sequence.Stopped (c .before .sequence .given .0 .0)) (c .before .sequence .given .1))
-
-enum-known-sequence-2 : tie.Need-enum-known-sequence-2 Inv-loop μ-loop
-enum-known-sequence-2 c = search needs
-
-encode-requires : tie.Need-encode-requires Inv-loop μ-loop
-encode-requires c κs = search needs
-
-enum-known-put : tie.Need-enum-known-put Inv-loop μ-loop
-enum-known-put c = search needs
+    let d = c .before .before .before .before in
+    let e = ends-stop (d .before .before .before .loop .inv) (d .before .before .loop-test .taken)
+    (c .before .before .sequence .given .0 .0)
+    (gaveAt d (sequence.Stopped (c .before .before .sequence .given .0 .0))
+    (c .before .before .sequence .given .1)) in
+    (c .ended .ensures ∙ e .0, e .1)
 
 add-at : tie.Need-add-at Inv-loop μ-loop
 add-at c =
     let g = nextAt c in
-    omega (arith, c .before .before .before .before .before .before .before .before .before .before .before .before .before .before .before .before .before .before .before .before .before .good .1 .1 .1 .1 .1 .1 .0 .0)
+    omega (arith, entry-2 (after-sequence2-2 c .before .before) .good .1 .1 .1 .1 .1 .1 .0 .0)
 
 add-w : tie.Need-add-w Inv-loop μ-loop
 add-w c =
     let g = nextAt c in
-    omega (arith, c .before .before .before .before .before .before .before .before .before .before .before .before .before .before .before .before .before .before .before .before .before .good .1 .1 .1 .1 .1 .1 .1 .0 .0)
+    omega (arith, entry-2 (after-sequence2-2 c .before .before) .good .1 .1 .1 .1 .1 .1 .1 .0 .0)
 
 loop-less : tie.Need-loop-less Inv-loop μ-loop
 loop-less c =
-    let d = c .before .before .before .before .before .before .before .before .before .before in
-    let k = c .before .before .before .before .before .before .before .before .sequence2 .given in
+    let d = after-sequence2-2 c .before .before in
+    let k = after-sequence2-2 c .sequence2 .given in
     let g = nextAt c in
-    let p = to-sound utf8 (tableAt d) (c .before .before .before .before .before .before .before .before .before .before .before .before .before .before .before .before .before .before .before .before .before .args .settings) .some 0 (restAt d) (encodeOf (k .0 .0)) (k .0 .1 .0) 0 (gaveAt d (sequence.Scalar (k .0 .0) (k .0 .1 .0)) (k .1)) in
+    let p = to-sound utf8 (tableAt d) (entry-2 (after-sequence2-2 c .before .before) .args .settings) .some 0
+    (restAt d) (encodeOf (k .0 .0)) (k .0 .1 .0) 0 (gaveAt d (sequence.Scalar (k .0 .0) (k .0 .1 .0)) (k .1)) in
     omega arith
 
 loop-again : tie.Need-loop-again Inv-loop μ-loop
 loop-again c = nextAt c
 
-enum-told : tie.Need-enum-told Inv-loop μ-loop
-enum-told c = search needs
-
-same-length-2 : tie.Need-same-length-2 Inv-loop μ-loop
-same-length-2 c = search needs
-
 returns-2 : tie.Need-returns-2 Inv-loop μ-loop
 returns-2 c =
-    let d = c .before .before .before .before .before .before .before .before .before in
+    let d = after-sequence2 (c .before .before .before) .before .before in
     let q = d .before .before .before .loop in
-    let k = c .before .before .before .before .before .before .before .sequence2 .given in
-    let x = c .before .before .before .before .encode in
-    let f = put-full (k .0 .0) (q .out) (q .w) (sym (c .enum-told .given .1) ∙ x .ensures .0) in
-    let r = ends-full (q .inv) (d .before .before .loop-test .taken) (encodeOf (k .0 .0)) (k .0 .1 .0) 0 (gaveAt d (sequence.Scalar (k .0 .0) (k .0 .1 .0)) (k .1)) (f .beyond) in
-    (r .0, x .ensures .1 ∙ f .kept ∙ r .1)
-
-enum-told-2 : tie.Need-enum-told-2 Inv-loop μ-loop
-enum-told-2 c = search needs
-
-same-length-3 : tie.Need-same-length-3 Inv-loop μ-loop
-same-length-3 c = search needs
+    let k = after-sequence2 (c .before .before .before) .sequence2 .given in
+    let x = c .before .before .before .before .before .encode in
+    let f = put-full (k .0 .0) (q .out) (q .w) (sym (c .before .enum-told .given .1) ∙ x .ensures .0) in
+    let r = ends-full (q .inv) (d .before .before .loop-test .taken) (encodeOf (k .0 .0)) (k .0 .1 .0) 0
+    (gaveAt d (sequence.Scalar (k .0 .0) (k .0 .1 .0)) (k .1)) (f .beyond) in
+    (c .ended2 .ensures ∙ r .0, x .ensures .1 ∙ f .kept ∙ r .1)
 
 returns-3 : tie.Need-returns-3 Inv-loop μ-loop
 returns-3 c =
-    let d = c .before .before .before .before .before .before .before .before .before in
+    let d = after-sequence2 (c .before .before .before) .before .before in
     let q = d .before .before .before .loop in
-    let k = c .before .before .before .before .before .before .before .sequence2 .given in
-    absurd (put-refused (k .0 .0) (q .out) (q .w) (sym (c .enum-told2 .given .1) ∙ c .before .before .before .before .encode .ensures .0) .other (scalarAt d (k .0 .0) (k .0 .1 .0) (k .1)))
-
-same-length-4 : tie.Need-same-length-4 Inv-loop μ-loop
-same-length-4 c = search needs
+    let k = after-sequence2 (c .before .before .before) .sequence2 .given in
+    absurd (put-refused (k .0 .0) (q .out) (q .w)
+    (sym (c .before .enum-told2 .given .1) ∙ c .before .before .before .before .before .encode .ensures .0) .other
+    (scalarAt d (k .0 .0) (k .0 .1 .0) (k .1)))
 
 returns-4 : tie.Need-returns-4 Inv-loop μ-loop
-returns-4 c = ends-all (c .before .loop .inv) (c .loop-test .left)
+returns-4 c =
+    let e = ends-all (c .before .before .loop .inv) (c .before .loop-test .left) in
+    (c .ended4 .ensures ∙ e .0, e .1)
 
 pub to-run-spec : {M : Type 1} → statement M
 to-run-spec =
     tie.close
-    (tie.spec
-    Inv-loop
-    μ-loop
-    loop-holds
-    sub-to-step
-    part-to-step-start
-    part-to-step-end
-    to-step-requires
-    enum-known-sequence
-    same-length
-    returns
-    enum-known-sequence-2
-    encode-requires
-    enum-known-put
-    add-at
-    add-w
-    loop-less
-    loop-again
-    enum-told
-    same-length-2
-    returns-2
-    enum-told-2
-    same-length-3
-    returns-3
-    same-length-4
+    (tie.spec Inv-loop μ-loop loop-holds sub-to-step part-to-step-start part-to-step-end
+    (λ c κs. search needs) (λ c. search needs) (λ c κs. search needs) (λ c. search needs) returns
+    (λ c. search needs) (λ c κs. search needs) (λ c. search needs) add-at add-w loop-less loop-again
+    (λ c. search needs) (λ c κs. search needs) (λ c. search needs) returns-2 (λ c. search needs)
+    (λ c κs. search needs) (λ c. search needs) returns-3 (λ c κs. search needs) (λ c. search needs)
     returns-4)

@@ -1,35 +1,17 @@
--- `write_as` meets its contract: by how the line that was found is used.
+-- By how the line that was found is used.
 use Rattle.convert.proofs.Choices.{both-ways, fallback-on, fallback-off, by-subchar1, only-read}
 use borrow.Author.Needs.{needs}
 use Rattle.convert.proofs.write_as.Statement.{statement}
 use Rattle.convert.proofs.write_as.Tie as tie
 
-enum-known-found : tie.Need-enum-known-found
-enum-known-found c = search needs
-
-enum-told : tie.Need-enum-told
-enum-told c = search needs
-
-returns : tie.Need-returns
-returns c = search needs
-
-enum-told-2 : tie.Need-enum-told-2
-enum-told-2 c = search needs
-
-enum-told-3 : tie.Need-enum-told-3
-enum-told-3 c = search needs
+abbrev entry : tie.After-enum-told3 → tie.Start
+entry c = c .before .before .before .before .before
 
 returns-2 : tie.Need-returns-2
 returns-2 c =
-    let a = c .before .before .before .before .before .before .args in
+    let a = entry (c .before) .args in
     let k = c .before .before .before .before .found .given in
     fallback-on (a .found) (k .0 .0) (k .1) (a .fallback) (c .before .enum-told3 .given .1) (c .if1 .taken)
-
-enum-told-4 : tie.Need-enum-told-4
-enum-told-4 c = search needs
-
-enum-told-5 : tie.Need-enum-told-5
-enum-told-5 c = search needs
 
 returns-3 : tie.Need-returns-3
 returns-3 c =
@@ -39,7 +21,7 @@ returns-3 c =
 
 returns-4 : tie.Need-returns-4
 returns-4 c =
-    let a = c .before .before .before .before .before .before .args in
+    let a = entry (c .before) .args in
     let k = c .before .before .before .before .found .given in
     fallback-off (a .found) (k .0 .0) (k .1) (a .fallback) (c .before .enum-told3 .given .1) (c .if1 .left)
 
@@ -58,16 +40,6 @@ returns-6 c =
 pub write-as-spec : {M : Type 1} → statement M
 write-as-spec =
     tie.close
-    (tie.spec
-    enum-known-found
-    enum-told
-    returns
-    enum-told-2
-    enum-told-3
-    returns-2
-    enum-told-4
-    enum-told-5
-    returns-3
-    returns-4
-    returns-5
+    (tie.spec (λ c. search needs) (λ c. search needs) (λ c. search needs) (λ c. search needs)
+    (λ c. search needs) returns-2 (λ c. search needs) (λ c. search needs) returns-3 returns-4 returns-5
     returns-6)

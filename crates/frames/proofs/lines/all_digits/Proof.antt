@@ -1,4 +1,4 @@
--- `all_digits` meets its contract. The invariant: the bytes left are all digits exactly when all are. The measure: the bytes left.
+-- Invariant: the bytes left are all digits exactly when all are. Measure: the bytes left.
 use mathlib.Core.Path.{_≡_, refl, sym, _∙_}
 use Prim.Native.Nat.{_-_}
 use native.Mathlib.Omega.{arith}
@@ -16,30 +16,21 @@ Inv-loop line i₀ i = allDigits line ≡ allDigits (drop i line)
 abbrev μ-loop : tie.MeasureT-loop
 μ-loop line i₀ i = length line - i
 
+abbrev entry : tie.After-digit Inv-loop μ-loop → tie.Start Inv-loop μ-loop
+entry c = c .before .before .before .before .before
+
 loop-holds : tie.Need-loop-holds Inv-loop μ-loop
 loop-holds c = refl
-
-shared-slice-read-digit-value : tie.Need-shared-slice-read-digit-value Inv-loop μ-loop
-shared-slice-read-digit-value c = search needs
-
-digit-value-requires : tie.Need-digit-value-requires Inv-loop μ-loop
-digit-value-requires c κs = search needs
 
 returns : tie.Need-returns Inv-loop μ-loop
 returns c =
     let l = c .before .before .before .before .loop in
-    digits-no (now (c .before .before .before .before .before .before .args .line)) (l .i) (omega arith) (sym (c .before .digit-value .ensures .0) ∙ c .if1 .taken) ∙ sym (l .inv)
-
-add-i : tie.Need-add-i Inv-loop μ-loop
-add-i c = search needs
-
-loop-less : tie.Need-loop-less Inv-loop μ-loop
-loop-less c = search needs
+    digits-no (now (entry (c .before) .args .line)) (l .i) (omega arith) (sym (c .before .digit .ensures .0) ∙ c .if1 .taken) ∙ sym (l .inv)
 
 loop-again : tie.Need-loop-again Inv-loop μ-loop
 loop-again c =
     let l = c .before .before .before .before .loop in
-    l .inv ∙ digits-on (now (c .before .before .before .before .before .before .args .line)) (l .i) (omega arith) (λ e. c .if1 .left (c .before .digit-value .ensures .0 ∙ e))
+    l .inv ∙ digits-on (now (entry (c .before) .args .line)) (l .i) (omega arith) (λ e. c .if1 .left (c .before .digit .ensures .0 ∙ e))
 
 returns-2 : tie.Need-returns-2 Inv-loop μ-loop
 returns-2 c =
@@ -49,14 +40,5 @@ returns-2 c =
 pub all-digits-spec : {M : Type 1} → statement M
 all-digits-spec =
     tie.close
-    (tie.spec
-    Inv-loop
-    μ-loop
-    loop-holds
-    shared-slice-read-digit-value
-    digit-value-requires
-    returns
-    add-i
-    loop-less
-    loop-again
-    returns-2)
+    (tie.spec Inv-loop μ-loop loop-holds (λ c. search needs) (λ c κs. search needs) returns
+    (λ c. search needs) (λ c. search needs) loop-again returns-2)

@@ -1,4 +1,4 @@
--- `decimal_count` meets its contract. The invariant: the digits counted and those of the rest are all digits. The measure: the rest.
+-- Invariant: the digits counted and those of the rest are all digits. Measure: the rest.
 use mathlib.Core.Path.{_≡_}
 use Prim.Native.Nat.{_+_, _≤_}
 use native.Mathlib.Omega.{arith}
@@ -17,12 +17,6 @@ abbrev μ-loop : tie.MeasureT-loop
 loop-holds : tie.Need-loop-holds Inv-loop μ-loop
 loop-holds c = (count-start (c .args .n), count-le (c .args .n) (search needs))
 
-add-count : tie.Need-add-count Inv-loop μ-loop
-add-count c = search needs
-
-loop-less : tie.Need-loop-less Inv-loop μ-loop
-loop-less c = search needs
-
 loop-again : tie.Need-loop-again Inv-loop μ-loop
 loop-again c =
     let l = c .before .loop in
@@ -36,4 +30,4 @@ returns c =
 
 pub decimal-count-spec : {M : Type 1} → statement M
 decimal-count-spec =
-    tie.close (tie.spec Inv-loop μ-loop loop-holds add-count loop-less loop-again returns)
+    tie.close (tie.spec Inv-loop μ-loop loop-holds (λ c. search needs) (λ c. search needs) loop-again returns)

@@ -1,4 +1,3 @@
--- `is_hex` meets its contract.
 use borrow.Author.Needs.{needs}
 use Rattle.lists.proofs.Laws.{tests}
 use Rattle.frames.specs.Lines.{isHex}
@@ -17,12 +16,9 @@ returns-3 : tie.Need-returns-3
 unfolding isHex
 returns-3 c = search tests
 
-all-digits-requires : tie.Need-all-digits-requires
-all-digits-requires c κs = search needs
-
 returns-4 : tie.Need-returns-4
 unfolding isHex
 returns-4 c = search (tests, ← c .all-digits .ensures)
 
 pub is-hex-spec : {M : Type 1} → statement M
-is-hex-spec = tie.close (tie.spec returns returns-2 returns-3 all-digits-requires returns-4)
+is-hex-spec = tie.close (tie.spec returns returns-2 returns-3 (λ c κs. search needs) returns-4)

@@ -1,4 +1,4 @@
--- `write_bytes` meets its contract. The invariant: storing the bytes left gives what storing all of them gives. The measure: the bytes left.
+-- Invariant: storing the bytes left gives what storing all of them gives. Measure: the bytes left.
 use mathlib.Core.Path.{_≡_, refl, sym, _∙_}
 use Prim.Native.Nat.{_+_, _-_, _≤_}
 use native.Mathlib.Omega.{arith}
@@ -6,8 +6,8 @@ use borrow.Author.Needs.{needs}
 use denote.Ref.{now}
 use lib.ListN.{length, drop, getD, length-set}
 use lib.Seq.{sets}
-use Rattle.lists.proofs.Laws.{drop-end}
-use Rattle.lists.proofs.Stores.{sets-step}
+use Rattle.lists.proofs.Laws.{drop-past}
+use Rattle.lists.proofs.Stores.{sets-drop-∷}
 use Rattle.frames.proofs.lines.write_bytes.Statement.{statement}
 use Rattle.frames.proofs.lines.write_bytes.Tie as tie
 
@@ -22,30 +22,15 @@ loop-holds c =
     let e : c .args .at + 0 ≡ c .args .at = omega arith in
     (rw e, omega arith, refl)
 
-shared-slice-read-out : tie.Need-shared-slice-read-out Inv-loop μ-loop
-shared-slice-read-out c = search needs
-
-add-out : tie.Need-add-out Inv-loop μ-loop
-add-out c = search needs
-
-slice-write-out : tie.Need-slice-write-out Inv-loop μ-loop
-slice-write-out c = search needs
-
-add-i : tie.Need-add-i Inv-loop μ-loop
-add-i c = search needs
-
-loop-less : tie.Need-loop-less Inv-loop μ-loop
-loop-less c = search needs
-
 loop-again : tie.Need-loop-again Inv-loop μ-loop
 loop-again c =
     let l = c .before .before .loop in
     let a = c .before .before .before .args in
-    let e : a .at + (l .i + 1) ≡ a .at + l .i + 1 = omega arith in
-    (rw e (sym (sets-step (l .out) (now (a .text)) (a .at + l .i) (l .i) (omega arith)) ∙ l .inv .0), omega arith, length-set (l .out) (a .at + l .i) (getD (now (a .text)) (l .i) 0) ∙ l .inv .2)
-
-add-result : tie.Need-add-result Inv-loop μ-loop
-add-result c = search needs
+    let e : a .at + (l .i + 1) ≡ a .at + l .i + 1 = omega arith in (
+      rw e (sym (sets-drop-∷ (l .out) (now (a .text)) (a .at + l .i) (l .i) (omega arith)) ∙ l .inv .0),
+      omega arith,
+      length-set (l .out) (a .at + l .i) (getD (now (a .text)) (l .i) 0) ∙ l .inv .2,
+    )
 
 same-length : tie.Need-same-length Inv-loop μ-loop
 same-length c = c .before .loop .inv .2
@@ -54,21 +39,10 @@ returns : tie.Need-returns Inv-loop μ-loop
 returns c =
     let l = c .before .loop in
     let a = c .before .before .args in
-    (omega arith, sym (rw (drop-end (now (a .text)) (l .i) (omega arith))) ∙ l .inv .0)
+    (omega arith, sym (rw (drop-past (now (a .text)) (l .i) (omega arith))) ∙ l .inv .0)
 
 pub write-bytes-spec : {M : Type 1} → statement M
 write-bytes-spec =
     tie.close
-    (tie.spec
-    Inv-loop
-    μ-loop
-    loop-holds
-    shared-slice-read-out
-    add-out
-    slice-write-out
-    add-i
-    loop-less
-    loop-again
-    add-result
-    same-length
-    returns)
+    (tie.spec Inv-loop μ-loop loop-holds (λ c. search needs) (λ c. search needs) (λ c. search needs)
+    (λ c. search needs) (λ c. search needs) loop-again (λ c. search needs) same-length returns)

@@ -1,4 +1,4 @@
--- `write_digits` meets its contract. The invariant: storing the digits left gives what storing all of them gives. The measure: the place of the last digit stored.
+-- Invariant: storing the digits left gives what storing all of them gives. Measure: the place of the last digit stored.
 use mathlib.Core.Path.{_≡_, refl, sym, _∙_}
 use Prim.Native.Nat.{_+_, _-_, _≤_}
 use native.Mathlib.Omega.{arith}
@@ -11,13 +11,12 @@ use Rattle.frames.proofs.lines.write_digits.Statement.{statement}
 use Rattle.frames.proofs.lines.write_digits.Tie as tie
 
 abbrev Inv-loop : tie.InvT-loop
-Inv-loop n count out₀ at rest₀ i₀ out rest i = (sets out at (digitsOf (i - at) rest) ≡ sets out₀ at (digitsOf count n)) × (at ≤ i) × (i ≤ at + count) × (length out ≡ length out₀)
+Inv-loop n count out₀ at rest₀ i₀ out rest i =
+    (sets out at (digitsOf (i - at) rest) ≡ sets out₀ at (digitsOf count n)) × (at ≤ i) × (i ≤ at + count) ×
+    (length out ≡ length out₀)
 
 abbrev μ-loop : tie.MeasureT-loop
 μ-loop n count out₀ at rest₀ i₀ out rest i = i
-
-add-i : tie.Need-add-i Inv-loop μ-loop
-add-i c = search needs
 
 loop-holds : tie.Need-loop-holds Inv-loop μ-loop
 loop-holds c =
@@ -25,23 +24,15 @@ loop-holds c =
     let e : a .at + a .count - a .at ≡ a .count = omega arith in
     (rw e, omega arith, omega arith, refl)
 
-sub-i : tie.Need-sub-i Inv-loop μ-loop
-sub-i c = search needs
-
-last-digit-requires : tie.Need-last-digit-requires Inv-loop μ-loop
-last-digit-requires c κs = search needs
-
-slice-write-out : tie.Need-slice-write-out Inv-loop μ-loop
-slice-write-out c = search needs
-
-loop-less : tie.Need-loop-less Inv-loop μ-loop
-loop-less c = search needs
-
 loop-again : tie.Need-loop-again Inv-loop μ-loop
 loop-again c =
     let l = c .before .before .loop in
-    let a = c .before .before .before .before .args in
-    (rw (c .last-digit .ensures) (sym (digit-stored (l .out) (a .at) (l .i) (l .rest) (omega arith)) ∙ l .inv .0), omega arith, omega arith, length-set (l .out) (l .i - 1) (c .last-digit .result) ∙ l .inv .3)
+    let a = c .before .before .before .before .args in (
+      rw (c .last-digit .ensures) (sym (digit-stored (l .out) (a .at) (l .i) (l .rest) (omega arith)) ∙ l .inv .0),
+      omega arith,
+      omega arith,
+      length-set (l .out) (l .i - 1) (c .last-digit .result) ∙ l .inv .3,
+    )
 
 same-length : tie.Need-same-length Inv-loop μ-loop
 same-length c = c .before .loop .inv .3
@@ -55,15 +46,5 @@ returns c =
 pub write-digits-spec : {M : Type 1} → statement M
 write-digits-spec =
     tie.close
-    (tie.spec
-    Inv-loop
-    μ-loop
-    add-i
-    loop-holds
-    sub-i
-    last-digit-requires
-    slice-write-out
-    loop-less
-    loop-again
-    same-length
-    returns)
+    (tie.spec Inv-loop μ-loop (λ c. search needs) loop-holds (λ c. search needs) (λ c κs. search needs)
+    (λ c. search needs) (λ c. search needs) loop-again same-length returns)

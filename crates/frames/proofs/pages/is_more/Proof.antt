@@ -1,4 +1,3 @@
--- `is_more` meets its contract.
 use mathlib.Core.Path.{_≡_, refl, sym, ap}
 use mathlib.Core.Bool.{Bool, false}
 use mathlib.Core.List.{[], _∷_}
@@ -20,9 +19,6 @@ refused Looked finished (inr h) = absurd (omega arith)
 refused BadPosition finished h = refl
 refused BadTable finished h = refl
 
-enum-told : tie.Need-enum-told
-enum-told c = search needs
-
 returns : tie.Need-returns
 returns c = ap (λ (e : Ending). moreAfter e (c .before .before .args .finished)) (sym (c .enum-told .given .1))
 
@@ -30,4 +26,4 @@ returns-2 : tie.Need-returns-2
 returns-2 c = refused (c .before .args .ending) (c .before .args .finished) (c .match .keys2)
 
 pub is-more-spec : {M : Type 1} → statement M
-is-more-spec = tie.close (tie.spec enum-told returns returns-2)
+is-more-spec = tie.close (tie.spec (λ c. search needs) returns returns-2)

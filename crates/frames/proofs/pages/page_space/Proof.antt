@@ -1,4 +1,3 @@
--- `page_space` meets its contract.
 use Rattle.lists.proofs.Laws.{tests}
 use native.Mathlib.Omega.{arith}
 use Rattle.frames.specs.Pages.{pageSpace}

@@ -1,4 +1,4 @@
--- `put_findings` meets its contract. The invariant: storing the lines left gives what storing all of them gives. The measure: the entries left.
+-- Invariant: storing the lines left gives what storing all of them gives. Measure: the entries left.
 use mathlib.Core.Path.{_≡_, sym, ap, _∙_}
 use Prim.Native.Nat.{ℕ, _-_}
 use native.Mathlib.Omega.{arith}
@@ -6,9 +6,9 @@ use borrow.Author.Needs.{needs}
 use lib.ListN.{length}
 use Rattle.table.specs.Codes.{bytesOf}
 use Rattle.audit.specs.Audit.{entryIn}
-use Rattle.audit.specs.declared.Entry.{Entry}
+use Rattle.audit.specs.declared.AuditEntry.{AuditEntry}
 use Rattle.frames.specs.Lines.{findingLine, roomAfter, putInto}
-use Rattle.frames.specs.Pages.{entryLine}
+use Rattle.frames.specs.loops.Inner.{entryLine}
 use Rattle.frames.proofs.Findings.{Putting, putting-start, putting-more, putting-fits, putting-all}
 use Rattle.frames.proofs.pages.put_findings.Statement.{statement}
 use Rattle.frames.proofs.pages.put_findings.Tie as tie
@@ -19,37 +19,26 @@ Inv-loop entries out₀ i₀ put₀ out i put = Putting entries out₀ out i put
 abbrev μ-loop : tie.MeasureT-loop
 μ-loop entries out₀ i₀ put₀ out i put = length entries - i
 
+abbrev after-entry-in : tie.After-slice-known2 Inv-loop μ-loop → tie.After-entry-in Inv-loop μ-loop
+after-entry-in c = c .before .before .before .before .before
+
+abbrev in-loop : tie.After-slice-known2 Inv-loop μ-loop → tie.In-loop Inv-loop μ-loop
+in-loop c = after-entry-in c .before .before
+
 loop-holds : tie.Need-loop-holds Inv-loop μ-loop
 loop-holds c = putting-start _ _ (c .before .before .pre)
 
 -- the line of an entry, by its parts
-line-is : (e : Entry) (n : ℕ) → e ≡ entryIn n → findingLine (bytesOf (e .code)) (e .cause) ≡ entryLine n
-line-is e n q = ap (λ (x : Entry). findingLine (bytesOf (x .code)) (x .cause)) q
-
-mul-entry-in : tie.Need-mul-entry-in Inv-loop μ-loop
-mul-entry-in c = search needs
-
-shared-slice-read-entry-in : tie.Need-shared-slice-read-entry-in Inv-loop μ-loop
-shared-slice-read-entry-in c = search needs
-
-entry-in-requires : tie.Need-entry-in-requires Inv-loop μ-loop
-entry-in-requires c κs = search needs
-
-put-finding-requires : tie.Need-put-finding-requires Inv-loop μ-loop
-put-finding-requires c κs = search needs
-
-enum-known-room : tie.Need-enum-known-room Inv-loop μ-loop
-enum-known-room c = search needs
-
-enum-told : tie.Need-enum-told Inv-loop μ-loop
-enum-told c = search needs
+line-is : (e : AuditEntry) (n : ℕ) → e ≡ entryIn n → findingLine (bytesOf (e .code)) (e .cause) ≡ entryLine n
+line-is e n q = ap (λ (x : AuditEntry). findingLine (bytesOf (x .code)) (x .cause)) q
 
 -- there is room for the next line
 fits-next : (c : tie.After-enum-told Inv-loop μ-loop) → ⊥
 fits-next c =
-    let l = c .before .before .before .before .before .before .before .before .before .before .loop in
-    putting-fits (l .inv) (c .before .before .before .before .before .before .before .before .before .loop-test .taken)
-    (sym (c .enum-told .given .1) ∙ c .before .before .before .before .put-finding .ensures .0 ∙ ap (roomAfter (l .out) (l .put)) (line-is _ _ (c .before .before .before .before .before .before .before .entry-in .ensures)))
+    let l = in-loop (c .before .before) .before .loop in
+    putting-fits (l .inv) (in-loop (c .before .before) .loop-test .taken)
+    (sym (c .enum-told .given .1) ∙ c .before .before .before .before .put-finding .ensures .0
+    ∙ ap (roomAfter (l .out) (l .put)) (line-is _ _ (after-entry-in (c .before .before) .entry-in .ensures)))
 
 same-length : tie.Need-same-length Inv-loop μ-loop
 same-length c = absurd (fits-next c)
@@ -57,18 +46,12 @@ same-length c = absurd (fits-next c)
 returns : tie.Need-returns Inv-loop μ-loop
 returns c = absurd (fits-next c)
 
-add-i : tie.Need-add-i Inv-loop μ-loop
-add-i c = search needs
-
-loop-less : tie.Need-loop-less Inv-loop μ-loop
-loop-less c = search needs
-
 loop-again : tie.Need-loop-again Inv-loop μ-loop
 loop-again c =
-    let l = c .before .before .before .before .before .before .before .before .before .before .before .loop in
+    let l = in-loop (c .before .before .before) .before .loop in
     let p = c .before .before .before .before .before .put-finding in
-    let q = line-is _ _ (c .before .before .before .before .before .before .before .before .entry-in .ensures) in
-    putting-more (l .inv) (c .before .before .before .before .before .before .before .before .before .before .loop-test .taken) (c .before .room .given .0 .0) (p .last .1 .1 .1 .0)
+    let q = line-is _ _ (after-entry-in (c .before .before .before) .entry-in .ensures) in
+    putting-more (l .inv) (in-loop (c .before .before .before) .loop-test .taken) (c .before .room .given .0 .0) (p .last .1 .1 .1 .0)
     (sym (c .before .room .given .1) ∙ p .ensures .0 ∙ ap (roomAfter (l .out) (l .put)) q) (p .ensures .1 ∙ ap (putInto (l .out) (l .put)) q)
 
 same-length-2 : tie.Need-same-length-2 Inv-loop μ-loop
@@ -80,20 +63,6 @@ returns-2 c = putting-all (c .before .loop .inv) (omega arith)
 pub put-findings-spec : {M : Type 1} → statement M
 put-findings-spec =
     tie.close
-    (tie.spec
-    Inv-loop
-    μ-loop
-    loop-holds
-    mul-entry-in
-    shared-slice-read-entry-in
-    entry-in-requires
-    put-finding-requires
-    enum-known-room
-    enum-told
-    same-length
-    returns
-    add-i
-    loop-less
-    loop-again
-    same-length-2
-    returns-2)
+    (tie.spec Inv-loop μ-loop loop-holds (λ c. search needs) (λ c. search needs) (λ c κs. search needs)
+    (λ c κs. search needs) (λ c. search needs) (λ c. search needs) same-length returns (λ c. search needs)
+    (λ c. search needs) loop-again same-length-2 returns-2)

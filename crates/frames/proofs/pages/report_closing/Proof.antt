@@ -1,18 +1,8 @@
--- `report_closing` meets its contract.
 use borrow.Author.Needs.{needs}
 use denote.Ref.{now}
 use Rattle.frames.proofs.Answers.{counted-put}
 use Rattle.frames.proofs.pages.report_closing.Statement.{statement}
 use Rattle.frames.proofs.pages.report_closing.Tie as tie
-
-put-closing-requires : tie.Need-put-closing-requires
-put-closing-requires c κs = search needs
-
-count-put-requires : tie.Need-count-put-requires
-count-put-requires c κs = search needs
-
-same-length : tie.Need-same-length
-same-length c = search needs
 
 returns : tie.Need-returns
 returns c =
@@ -21,4 +11,4 @@ returns c =
     counted-put (now (a .out)) _ (c .count-put .result) (p .result) _ (c .count-put .ensures) (p .ensures)
 
 pub report-closing-spec : {M : Type 1} → statement M
-report-closing-spec = tie.close (tie.spec put-closing-requires count-put-requires same-length returns)
+report-closing-spec = tie.close (tie.spec (λ c κs. search needs) (λ c κs. search needs) (λ c. search needs) returns)

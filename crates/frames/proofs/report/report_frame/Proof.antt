@@ -1,4 +1,3 @@
--- `report_frame` meets its contract.
 use mathlib.Core.Path.{sym, ap}
 use mathlib.Core.Bool.{false}
 use denote.Ref.{now}
@@ -9,58 +8,52 @@ use Rattle.table.specs.Slices.{slices}
 use Rattle.convert.specs.Step.{utf8, substituting}
 use Rattle.convert.specs.Convert.{toTested}
 use Rattle.frames.specs.Report.{convertIn}
-use Rattle.frames.proofs.Answers.{written-fits, answer-is, put-same}
+use Rattle.frames.proofs.Answers.{written-fits, answerLine-≡, putInto-≡}
 use borrow.Author.Needs.{needs}
 use Rattle.frames.proofs.report.report_frame.Statement.{statement}
 use Rattle.frames.proofs.report.report_frame.Tie as tie
 
-to-utf8-requires : tie.Need-to-utf8-requires
-to-utf8-requires c κs = search needs
+abbrev entry : tie.After-end-number → tie.Start
+entry c = c .before .before .before .before .before .before .before .before .before .before .before .before
 
-halt-number-requires : tie.Need-halt-number-requires
-halt-number-requires c κs = search needs
+abbrev after-end-number : tie.After-slice-known4 → tie.After-end-number
+after-end-number c = c .before .before .before .before .before
 
 slice-reshare-prefix-put-answer : tie.Need-slice-reshare-prefix-put-answer
 slice-reshare-prefix-put-answer c =
-    let a = c .before .before .before .before .before .before .before .before .before .before .before .before .args in
+    let a = entry c .args in
     let f = c .before .before .before .to-utf8 in
-    written-fits (toTested utf8 limits (a .rec) (slices (now (a .states)) (now (a .codes)) (now (a .infos)) (now (a .order))) (substituting false) (now (a .frame)) (length (now (a .text)))) (now (a .text)) (f .last .1 .1 .1 .1 .1 .1 .0) (f .result) (f .ensures .0) (f .ensures .1)
+    written-fits (toTested utf8 limits (a .rec)
+    (slices (now (a .states)) (now (a .codes)) (now (a .infos)) (now (a .order))) (substituting false)
+    (now (a .frame)) (length (now (a .text)))) (now (a .text)) (f .last .1 .1 .1 .1 .1 .1 .0) (f .result)
+    (f .ensures .0) (f .ensures .1)
 
 slice-aggregate-put-answer : tie.Need-slice-aggregate-put-answer
 slice-aggregate-put-answer c =
-    let a = c .before .before .before .before .before .before .before .before .before .before .before .before .before .args in
+    let a = entry (c .before) .args in
     let f = c .before .before .before .before .to-utf8 in
-    sym (length-take-le (f .result .written) (f .last .1 .1 .1 .1 .1 .1 .0) (written-fits (toTested utf8 limits (a .rec) (slices (now (a .states)) (now (a .codes)) (now (a .infos)) (now (a .order))) (substituting false) (now (a .frame)) (length (now (a .text)))) (now (a .text)) (f .last .1 .1 .1 .1 .1 .1 .0) (f .result) (f .ensures .0) (f .ensures .1)))
-
-put-answer-requires : tie.Need-put-answer-requires
-put-answer-requires c κs = search needs
-
-same-length : tie.Need-same-length
-same-length c = search needs
-
-same-length-2 : tie.Need-same-length-2
-same-length-2 c = search needs
+    sym (length-take-le (f .result .written) (f .last .1 .1 .1 .1 .1 .1 .0)
+    (written-fits (toTested utf8 limits (a .rec)
+    (slices (now (a .states)) (now (a .codes)) (now (a .infos)) (now (a .order))) (substituting false)
+    (now (a .frame)) (length (now (a .text)))) (now (a .text)) (f .last .1 .1 .1 .1 .1 .1 .0) (f .result)
+    (f .ensures .0) (f .ensures .1)))
 
 returns : tie.Need-returns
 unfolding convertIn
 returns c =
-    let a = c .before .before .before .before .before .before .before .before .before .before .before .before .before .before .before .before .before .args in
-    let f = c .before .before .before .before .before .before .before .before .to-utf8 in
+    let a = entry (after-end-number c) .args in
+    let f = after-end-number c .before .before .before .to-utf8 in
     let g = c .before .before .put-answer in
-    let n = c .before .before .before .before .before .halt-number in
-    let run = toTested utf8 limits (a .rec) (slices (now (a .states)) (now (a .codes)) (now (a .infos)) (now (a .order))) (substituting false) (now (a .frame)) in
-    let r = answer-is (run (length (now (a .text)))) (now (a .text)) (f .last .1 .1 .1 .1 .1 .1 .0) (f .result) (f .ensures .0) (f .ensures .1) (run 16384) (ap run (c .before .before .before .before .before .before .before .before .before .before .before .before .before .before .before .before .before .pre)) (n .result) (n .ensures) in
-    put-same (now (a .out)) (a .at) r (g .result) (g .last .1 .1 .1 .0) (g .ensures)
+    let n = after-end-number c .end-number in
+    let run = toTested utf8 limits (a .rec)
+    (slices (now (a .states)) (now (a .codes)) (now (a .infos)) (now (a .order))) (substituting false)
+    (now (a .frame)) in
+    let r = answerLine-≡ (run (length (now (a .text)))) (now (a .text)) (f .last .1 .1 .1 .1 .1 .1 .0) (f .result)
+    (f .ensures .0) (f .ensures .1) (run 16384) (ap run (entry (after-end-number c) .pre)) (n .result) (n .ensures) in
+    putInto-≡ (now (a .out)) (a .at) r (g .result) (g .last .1 .1 .1 .0) (g .ensures)
 
 pub report-frame-spec : {M : Type 1} → statement M
 report-frame-spec =
     tie.close
-    (tie.spec
-    to-utf8-requires
-    halt-number-requires
-    slice-reshare-prefix-put-answer
-    slice-aggregate-put-answer
-    put-answer-requires
-    same-length
-    same-length-2
-    returns)
+    (tie.spec (λ c κs. search needs) (λ c κs. search needs) slice-reshare-prefix-put-answer
+    slice-aggregate-put-answer (λ c κs. search needs) (λ c. search needs) (λ c. search needs) returns)

@@ -12,11 +12,10 @@ returns : tie.Need-returns
 unfolding unpacked
 returns c = search needs
 
-cast-result : tie.Need-cast-result
-cast-result c = search needs
-
 returns-2 : tie.Need-returns-2
-returns-2 c = sym (ap (λ (s : List ℕ). getD s 0 0) (unpacked-more (c .before .before .before .args .c .len) (c .before .before .before .args .c .bits) (c .before .if1 .left)))
+returns-2 c =
+    sym (ap (λ (s : List ℕ). getD s 0 0) (unpacked-more (c .before .before .before .args .c .len)
+    (c .before .before .before .args .c .bits) (c .before .if1 .left)))
 
 pub first-byte-spec : {M : Type 1} → statement M
-first-byte-spec = tie.close (tie.spec returns cast-result returns-2)
+first-byte-spec = tie.close (tie.spec returns (λ c. search needs) returns-2)

@@ -2,26 +2,17 @@ use mathlib.Core.Path.{refl}
 use lib.ListN.{List·getD-eq-default}
 use borrow.Author.Needs.{needs}
 use Rattle.lists.proofs.Laws.{tests}
-use Rattle.table.specs.Marks.{isMarked}
+use Rattle.table.specs.loops.Marks.{isMarked}
 use Rattle.table.proofs.codes.is_marked.Statement.{statement}
 use Rattle.table.proofs.codes.is_marked.Tie as tie
-
-mul-i : tie.Need-mul-i
-mul-i c = search needs
-
-add-i : tie.Need-add-i
-add-i c = search needs
 
 returns : tie.Need-returns
 unfolding isMarked
 returns c = let e = List·getD-eq-default (c .before .args .marks .now) 0 (c .if1 .taken) in search (tests, e)
-
-shared-slice-read-result : tie.Need-shared-slice-read-result
-shared-slice-read-result c = search needs
 
 returns-2 : tie.Need-returns-2
 unfolding isMarked
 returns-2 c = refl
 
 pub is-marked-spec : {M : Type 1} → statement M
-is-marked-spec = tie.close (tie.spec mul-i add-i returns shared-slice-read-result returns-2)
+is-marked-spec = tie.close (tie.spec (λ c. search needs) (λ c. search needs) returns (λ c. search needs) returns-2)

@@ -8,18 +8,15 @@ use Rattle.table.proofs.Marks.{unpacked-more}
 use Rattle.table.proofs.codes.rest.Statement.{statement}
 use Rattle.table.proofs.codes.rest.Tie as tie
 
+abbrev entry : tie.After-struct-known3 → tie.Start
+entry c = c .before .before .before .before
+
 returns : tie.Need-returns
 unfolding unpacked
 returns c = search needs
 
-mul-t4 : tie.Need-mul-t4
-mul-t4 c = search needs
-
-sub-t5 : tie.Need-sub-t5
-sub-t5 c = search needs
-
 returns-2 : tie.Need-returns-2
-returns-2 c = sym (ap (λ (s : List ℕ). drop 1 s) (unpacked-more (c .before .before .before .before .args .c .len) (c .before .before .before .before .args .c .bits) (c .before .before .if1 .left)))
+returns-2 c = sym (ap (λ (s : List ℕ). drop 1 s) (unpacked-more (entry c .args .c .len) (entry c .args .c .bits) (c .before .before .if1 .left)))
 
 pub rest-spec : {M : Type 1} → statement M
-rest-spec = tie.close (tie.spec returns mul-t4 sub-t5 returns-2)
+rest-spec = tie.close (tie.spec returns (λ c. search needs) (λ c. search needs) returns-2)

@@ -4,44 +4,8 @@ use Rattle.table.proofs.HeaderLaws.{key-verdict}
 use Rattle.table.proofs.header.judge_key.Statement.{statement}
 use Rattle.table.proofs.header.judge_key.Tie as tie
 
-seen-requires : tie.Need-seen-requires
-seen-requires c κs = search needs
-
 returns : tie.Need-returns
 returns c = rw (key-verdict, ← c .before .seen .ensures, c .if1 .taken)
-
-enum-told : tie.Need-enum-told
-enum-told c = search needs
-
-enum-told-2 : tie.Need-enum-told-2
-enum-told-2 c = search needs
-
-enum-told-3 : tie.Need-enum-told-3
-enum-told-3 c = search needs
-
-enum-told-4 : tie.Need-enum-told-4
-enum-told-4 c = search needs
-
-enum-told-5 : tie.Need-enum-told-5
-enum-told-5 c = search needs
-
-enum-told-6 : tie.Need-enum-told-6
-enum-told-6 c = search needs
-
-enum-told-7 : tie.Need-enum-told-7
-enum-told-7 c = search needs
-
-enum-told-8 : tie.Need-enum-told-8
-enum-told-8 c = search needs
-
-enum-told-9 : tie.Need-enum-told-9
-enum-told-9 c = search needs
-
-enum-known-v : tie.Need-enum-known-v
-enum-known-v c = search needs
-
-judge-row-requires : tie.Need-judge-row-requires
-judge-row-requires c κs = search needs
 
 returns-2 : tie.Need-returns-2
 unfolding n12 n14 n15
@@ -81,32 +45,20 @@ returns-10 c = rw (key-verdict, ← c .before .before .before .seen .ensures, c 
 
 returns-11 : tie.Need-returns-11
 unfolding n12 n14 n15
-returns-11 c = rw (key-verdict, ← c .before .before .before .before .before .seen .ensures, c .before .before .before .before .if1 .left, c .before .before .v .given .1, ← c .judge-row .ensures)
+returns-11 c =
+    let else1 = c .before .before .before .before in
+    rw (
+      key-verdict,
+      ← else1 .before .seen .ensures,
+      else1 .if1 .left,
+      c .before .before .v .given .1,
+      ← c .judge-row .ensures,
+    )
 
 pub judge-key-spec : {M : Type 1} → statement M
 judge-key-spec =
     tie.close
-    (tie.spec
-    seen-requires
-    returns
-    enum-told
-    enum-told-2
-    enum-told-3
-    enum-told-4
-    enum-told-5
-    enum-told-6
-    enum-told-7
-    enum-told-8
-    enum-told-9
-    enum-known-v
-    judge-row-requires
-    returns-2
-    returns-3
-    returns-4
-    returns-5
-    returns-6
-    returns-7
-    returns-8
-    returns-9
-    returns-10
-    returns-11)
+    (tie.spec (λ c κs. search needs) returns (λ c. search needs) (λ c. search needs) (λ c. search needs)
+    (λ c. search needs) (λ c. search needs) (λ c. search needs) (λ c. search needs) (λ c. search needs)
+    (λ c. search needs) (λ c. search needs) (λ c κs. search needs) returns-2 returns-3 returns-4 returns-5
+    returns-6 returns-7 returns-8 returns-9 returns-10 returns-11)

@@ -1,46 +1,13 @@
 use native.Mathlib.Omega.{arith}
 use borrow.Author.Needs.{needs}
-use Rattle.table.specs.Header.{InRange}
+use Rattle.table.specs.loops.Ranges.{InRange}
 use Rattle.table.proofs.KeyLaws.{keepIn, kept-as}
 use Rattle.table.proofs.header.keep_value.Statement.{statement}
 use Rattle.table.proofs.header.keep_value.Tie as tie
 
-enum-told : tie.Need-enum-told
-enum-told c = search needs
-
-enum-told-2 : tie.Need-enum-told-2
-enum-told-2 c = search needs
-
-enum-told-3 : tie.Need-enum-told-3
-enum-told-3 c = search needs
-
-enum-told-4 : tie.Need-enum-told-4
-enum-told-4 c = search needs
-
-enum-known-v : tie.Need-enum-known-v
-enum-known-v c = search needs
-
-enum-known-v-2 : tie.Need-enum-known-v-2
-enum-known-v-2 c = search needs
-
-enum-known-v-3 : tie.Need-enum-known-v-3
-enum-known-v-3 c = search needs
-
-enum-known-v-4 : tie.Need-enum-known-v-4
-enum-known-v-4 c = search needs
-
-enum-known-v-5 : tie.Need-enum-known-v-5
-enum-known-v-5 c = search needs
-
 add-g : tie.Need-add-g
 unfolding InRange
 add-g c = let h = rw (c .before .v5 .given .1) at (c .before .before .before .pre .1) in omega arith
-
-enum-told-5 : tie.Need-enum-told-5
-enum-told-5 c = search needs
-
-add-g-2 : tie.Need-add-g-2
-add-g-2 c = search needs
 
 returns : tie.Need-returns
 unfolding keepIn
@@ -105,26 +72,7 @@ returns-10 c =
 pub keep-value-spec : {M : Type 1} → statement M
 keep-value-spec =
     tie.close
-    (tie.spec
-    enum-told
-    enum-told-2
-    enum-told-3
-    enum-told-4
-    enum-known-v
-    enum-known-v-2
-    enum-known-v-3
-    enum-known-v-4
-    enum-known-v-5
-    add-g
-    enum-told-5
-    add-g-2
-    returns
-    returns-2
-    returns-3
-    returns-4
-    returns-5
-    returns-6
-    returns-7
-    returns-8
-    returns-9
-    returns-10)
+    (tie.spec (λ c. search needs) (λ c. search needs) (λ c. search needs) (λ c. search needs)
+    (λ c. search needs) (λ c. search needs) (λ c. search needs) (λ c. search needs) (λ c. search needs) add-g
+    (λ c. search needs) (λ c. search needs) returns returns-2 returns-3 returns-4 returns-5 returns-6
+    returns-7 returns-8 returns-9 returns-10)

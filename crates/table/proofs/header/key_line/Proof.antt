@@ -1,18 +1,9 @@
 use native.Mathlib.Omega.{arith}
 use borrow.Author.Needs.{needs}
-use Rattle.table.specs.Text.{Placed}
-use Rattle.table.specs.Header.{keyLine, InLine}
+use Rattle.table.specs.loops.Ranges.{Placed, InLine}
+use Rattle.table.specs.Header.{keyLine}
 use Rattle.table.proofs.header.key_line.Statement.{statement}
 use Rattle.table.proofs.header.key_line.Tie as tie
-
-content-end-requires : tie.Need-content-end-requires
-content-end-requires c κs = search needs
-
-enum-told : tie.Need-enum-told
-enum-told c = search needs
-
-enum-known-x : tie.Need-enum-known-x
-enum-known-x c = search needs
 
 sub-value-of : tie.Need-sub-value-of
 unfolding Placed
@@ -26,27 +17,25 @@ part-value-of-end : tie.Need-part-value-of-end
 unfolding Placed
 part-value-of-end c = let h = rw (c .before .x .given .1) at (c .before .before .before .content-end .ensures .1) in omega arith
 
-value-of-requires : tie.Need-value-of-requires
-value-of-requires c κs = search needs
-
 returns : tie.Need-returns
 unfolding keyLine InLine
 returns c = (rw (← c .before .before .content-end .ensures .0, c .enum-told .given .1), tt)
 
 returns-2 : tie.Need-returns-2
 unfolding keyLine InLine Placed
-returns-2 c = let h = rw (c .before .before .before .x .given .1) at (c .before .before .before .before .before .content-end .ensures .1) in (rw (← c .before .before .before .before .before .content-end .ensures .0, c .before .before .before .x .given .1, ← c .value-of .ensures), (omega arith, omega arith))
+returns-2 c =
+    let h = rw (c .before .before .before .x .given .1) at
+    (c .before .before .before .before .before .content-end .ensures .1) in (
+      rw (
+        ← c .before .before .before .before .before .content-end .ensures .0,
+        c .before .before .before .x .given .1,
+        ← c .value-of .ensures,
+      ),
+      (omega arith, omega arith),
+    )
 
 pub key-line-spec : {M : Type 1} → statement M
 key-line-spec =
     tie.close
-    (tie.spec
-    content-end-requires
-    enum-told
-    enum-known-x
-    sub-value-of
-    part-value-of-start
-    part-value-of-end
-    value-of-requires
-    returns
-    returns-2)
+    (tie.spec (λ c κs. search needs) (λ c. search needs) (λ c. search needs) sub-value-of part-value-of-start
+    part-value-of-end (λ c κs. search needs) returns returns-2)

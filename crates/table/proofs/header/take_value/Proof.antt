@@ -3,26 +3,22 @@ use borrow.Author.Needs.{needs}
 use Rattle.table.proofs.header.take_value.Statement.{statement}
 use Rattle.table.proofs.header.take_value.Tie as tie
 
-is-row-requires : tie.Need-is-row-requires
-is-row-requires c κs = search needs
+abbrev entry : tie.After-struct-known → tie.Start
+entry c = c .before .before .before .before .before .before
 
-cast-put-row : tie.Need-cast-put-row
-cast-put-row c = search needs
+abbrev then1 : tie.After-keep-value → tie.Then1
+then1 c = c .before .before .before .before .before .before
 
 put-row-requires : tie.Need-put-row-requires
-put-row-requires c κs = (c .before .before .before .before .before .before .pre .3 (sym (c .before .before .before .is-row .ensures) ∙ c .before .before .if1 .taken), c .before .before .before .before .before .before .pre .0, c .before .before .before .before .before .before .pre .1, c .before .before .before .before .before .before .pre .2)
-
-keep-value-requires : tie.Need-keep-value-requires
-keep-value-requires c κs = search needs
-
-same-length : tie.Need-same-length
-same-length c = search needs
+put-row-requires c κs = (
+  entry c .pre .3 (sym (c .before .before .before .is-row .ensures) ∙ c .before .before .if1 .taken),
+  entry c .pre .0,
+  entry c .pre .1,
+  entry c .pre .2,
+)
 
 returns : tie.Need-returns
-returns c = (c .keep-value .ensures, rw (← c .before .before .before .before .before .before .before .is-row .ensures, c .before .before .before .before .before .before .if1 .taken, c .before .before .before .put-row .ensures))
-
-keep-value-requires-2 : tie.Need-keep-value-requires-2
-keep-value-requires-2 c κs = search needs
+returns c = (c .keep-value .ensures, rw (← then1 c .before .is-row .ensures, then1 c .if1 .taken, c .before .before .before .put-row .ensures))
 
 returns-2 : tie.Need-returns-2
 returns-2 c = (c .keep-value2 .ensures, rw (← c .before .before .is-row .ensures, c .before .if1 .left))
@@ -30,12 +26,5 @@ returns-2 c = (c .keep-value2 .ensures, rw (← c .before .before .is-row .ensur
 pub take-value-spec : {M : Type 1} → statement M
 take-value-spec =
     tie.close
-    (tie.spec
-    is-row-requires
-    cast-put-row
-    put-row-requires
-    keep-value-requires
-    same-length
-    returns
-    keep-value-requires-2
-    returns-2)
+    (tie.spec (λ c κs. search needs) (λ c. search needs) put-row-requires (λ c κs. search needs)
+    (λ c. search needs) returns (λ c κs. search needs) returns-2)

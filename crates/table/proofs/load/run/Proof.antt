@@ -1,3 +1,6 @@
+-- Invariant (Going): loading the text from `at` on gives the outcome of the whole; the memory holds what was read, and
+-- past the needed places it is as it was.
+-- Measure: bytes left.
 use Prim.Native.Nat.{ℕ, _+_, _-_, _≤_}
 use mathlib.Core.Path.{_≡_, refl, sym, ap, _∙_}
 use mathlib.Core.List.{List, [], _∷_}
@@ -13,8 +16,8 @@ use Rattle.table.specs.Meaning.{Line}
 use Rattle.table.specs.Slices.{Slices, slices}
 use Rattle.table.specs.Text.{linesOf}
 use Rattle.table.specs.Numbers.{lowest}
-use Rattle.table.specs.Load.{Reading, Step, went, stop, reading, stepOf, tableOf, accepted, refused, outcomeAt, loadGo, loadOf, statesOf, codesOf, infosOf, orderedOf, loadedAs}
-use Rattle.table.specs.Progress.{keysIn, Holding, Beyond}
+use Rattle.table.specs.Load.{Reading, LineStep, goesOn, stop, reading, lineStep, tableOf, accepted, refused, outcomeAt, loadGo, loadOf, statesOf, codesOf, infosOf, orderedOf, loadedAs}
+use Rattle.table.specs.loops.Progress.{keysIn, Holding, Beyond}
 use Rattle.table.specs.declared.load.Phase.{Phase}
 use Rattle.table.specs.declared.load.Phase.the-variants.{Header, Mappings, Ended}
 use Rattle.table.specs.declared.load.Refusal.the-variants.{NoEnd}
@@ -29,7 +32,7 @@ use Rattle.table.proofs.load.run.Tie as tie
 record Going (text : List ℕ) (m₀ m : Slices) (at k : ℕ) (p : Progress) : Type 0 where
   rows : List (List Cell)
   lines : List Line
-  pending : loadOf limits text ≡ loadGo lowest limits k (linesOf (drop at text)) (went (reading (p .phase) (keysIn (p .head)) rows lines))
+  pending : loadOf limits text ≡ loadGo lowest limits k (linesOf (drop at text)) (goesOn (reading (p .phase) (keysIn (p .head)) rows lines))
   holding : Holding limits (p .head) (p .mappings) rows lines m
   none-yet-read : p .phase ≡ Header → [] ≡ lines
   beyond : Beyond limits m₀ m
@@ -53,10 +56,45 @@ unfolding outcomeAt
 ended k r p e = ap (outcomeAt k r) e
 
 abbrev Inv-loop : tie.InvT-loop
-Inv-loop text states₀ codes₀ infos₀ order₀ at₀ k₀ p₀ states codes infos order at k p = Going text (slices states₀ codes₀ infos₀ order₀) (slices states codes infos order) at k p
+Inv-loop text states₀ codes₀ infos₀ order₀ at₀ k₀ p₀ states codes infos order at k p =
+    Going text (slices states₀ codes₀ infos₀ order₀) (slices states codes infos order) at k p
 
 abbrev μ-loop : tie.MeasureT-loop
 μ-loop text states₀ codes₀ infos₀ order₀ at₀ k₀ p₀ states codes infos order at k p = length text - at
+
+abbrev entry : tie.After-slice-known4 Inv-loop μ-loop → tie.Start Inv-loop μ-loop
+entry c = c .before .before .before .before .before
+
+abbrev turn : tie.After-take-line-arg5 Inv-loop μ-loop → tie.At-loop Inv-loop μ-loop
+turn c = c .before .before .before .before .before .before .before
+
+abbrev after-loop : tie.After-record-of Inv-loop μ-loop → tie.After-loop Inv-loop μ-loop
+after-loop c = c .before .before .before .before
+
+abbrev after-cut-line : tie.After-take-line Inv-loop μ-loop → tie.After-cut-line Inv-loop μ-loop
+after-cut-line c = c .before .before .before .before .before .before
+
+abbrev turn-2 : tie.After-take-line Inv-loop μ-loop → tie.At-loop Inv-loop μ-loop
+turn-2 c = after-cut-line c .before .before
+
+abbrev after-wipe2 : tie.After-refuse2 Inv-loop μ-loop → tie.After-wipe2 Inv-loop μ-loop
+after-wipe2 c = c .before .before .before .before .before .before .before .before .before
+
+abbrev at-match2-keys2 : tie.After-refuse2 Inv-loop μ-loop → tie.At-match2-keys2 Inv-loop μ-loop
+at-match2-keys2 c = after-wipe2 c .before .before .before .before .before
+
+abbrev after-take-line : tie.After-known-told2 Inv-loop μ-loop → tie.After-take-line Inv-loop μ-loop
+after-take-line c = c .before .before .before .before .before .before .before .before .before .before .before
+
+abbrev after-w : tie.After-wipe Inv-loop μ-loop → tie.After-w Inv-loop μ-loop
+after-w c = c .before .before .before .before .before .before
+
+abbrev after-wipe : tie.After-refuse Inv-loop μ-loop → tie.After-wipe Inv-loop μ-loop
+after-wipe c = c .before .before .before .before .before .before .before .before .before
+
+abbrev after-take-line-2 : tie.After-refuse Inv-loop μ-loop → tie.After-take-line Inv-loop μ-loop
+after-take-line-2 c =
+    after-w (after-wipe c) .before .before .before .before .before .before .before .before .before .before
 
 loop-holds : tie.Need-loop-holds Inv-loop μ-loop
 unfolding loadOf
@@ -65,7 +103,7 @@ loop-holds c =
       rows = [];
       lines = [];
       pending = refl;
-      holding = c .before .before .before .before .before .pre .2;
+      holding = entry c .pre .2;
       none-yet-read = λ e. refl;
       beyond = record { states-rest = refl; codes-rest = refl; infos-rest = refl; order-rest = refl };
       counted = search needs;
@@ -76,64 +114,44 @@ loop-holds c =
       order-kept = refl;
     }
 
-cut-line-requires : tie.Need-cut-line-requires Inv-loop μ-loop
-cut-line-requires c κs = search needs
-
-add-k : tie.Need-add-k Inv-loop μ-loop
-add-k c = search needs
-
-sub-take-line : tie.Need-sub-take-line Inv-loop μ-loop
-sub-take-line c = search needs
-
-part-take-line-start : tie.Need-part-take-line-start Inv-loop μ-loop
-part-take-line-start c = search needs
-
-part-take-line-end : tie.Need-part-take-line-end Inv-loop μ-loop
-part-take-line-end c = search needs
-
 take-line-requires : tie.Need-take-line-requires Inv-loop μ-loop
 take-line-requires c κs =
-    let i = c .before .before .before .before .before .before .before .loop .inv in
+    let i = turn c .loop .inv in
     (search needs, record { rows = i .rows; lines = i .lines; holding = i .holding }, λ e. sym (i .holding .lines-count) ∙ ap length (sym (i .none-yet-read e)))
 
-enum-known-w : tie.Need-enum-known-w Inv-loop μ-loop
-enum-known-w c = search needs
-
-wipe-requires : tie.Need-wipe-requires Inv-loop μ-loop
-wipe-requires c κs = search needs
-
-refuse-requires : tie.Need-refuse-requires Inv-loop μ-loop
-refuse-requires c κs = search needs
-
 same-length : tie.Need-same-length Inv-loop μ-loop
-same-length c = c .before .before .before .before .before .before .before .before .before .wipe .kept .0 ∙ c .before .before .before .before .before .before .before .before .before .before .before .before .before .before .before .before .before .before .before .before .before .before .before .before .before .take-line .kept .1 .1 .0 ∙ c .before .before .before .before .before .before .before .before .before .before .before .before .before .before .before .before .before .before .before .before .before .before .before .before .before .before .before .before .before .before .before .before .before .loop .inv .states-kept
+same-length c = after-wipe c .wipe .kept .0 ∙ after-take-line-2 c .take-line .kept .1 .1 .0 ∙ turn-2 (after-take-line-2 c) .loop .inv .states-kept
 
 same-length-2 : tie.Need-same-length-2 Inv-loop μ-loop
-same-length-2 c = c .before .before .before .before .before .before .before .before .before .wipe .kept .1 .0 ∙ c .before .before .before .before .before .before .before .before .before .before .before .before .before .before .before .before .before .before .before .before .before .before .before .before .before .take-line .kept .1 .1 .1 .0 ∙ c .before .before .before .before .before .before .before .before .before .before .before .before .before .before .before .before .before .before .before .before .before .before .before .before .before .before .before .before .before .before .before .before .before .loop .inv .codes-kept
+same-length-2 c = after-wipe c .wipe .kept .1 .0 ∙ after-take-line-2 c .take-line .kept .1 .1 .1 .0 ∙ turn-2 (after-take-line-2 c) .loop .inv .codes-kept
 
 same-length-3 : tie.Need-same-length-3 Inv-loop μ-loop
-same-length-3 c = c .before .before .before .before .before .before .before .before .before .wipe .kept .1 .1 .0 ∙ c .before .before .before .before .before .before .before .before .before .before .before .before .before .before .before .before .before .before .before .before .before .before .before .before .before .take-line .kept .1 .1 .1 .1 .0 ∙ c .before .before .before .before .before .before .before .before .before .before .before .before .before .before .before .before .before .before .before .before .before .before .before .before .before .before .before .before .before .before .before .before .before .loop .inv .infos-kept
+same-length-3 c = after-wipe c .wipe .kept .1 .1 .0 ∙ after-take-line-2 c .take-line .kept .1 .1 .1 .1 .0 ∙ turn-2 (after-take-line-2 c) .loop .inv .infos-kept
 
 same-length-4 : tie.Need-same-length-4 Inv-loop μ-loop
-same-length-4 c = c .before .before .before .before .before .before .before .before .before .wipe .kept .1 .1 .1 .0 ∙ c .before .before .before .before .before .before .before .before .before .before .before .before .before .before .before .before .before .before .before .before .before .before .before .before .before .take-line .kept .1 .1 .1 .1 .1 .0 ∙ c .before .before .before .before .before .before .before .before .before .before .before .before .before .before .before .before .before .before .before .before .before .before .before .before .before .before .before .before .before .before .before .before .before .loop .inv .order-kept
+same-length-4 c =
+    after-wipe c .wipe .kept .1 .1 .1 .0 ∙ after-take-line-2 c .take-line .kept .1 .1 .1 .1 .1 .0
+    ∙ turn-2 (after-take-line-2 c) .loop .inv .order-kept
 
 returns : tie.Need-returns Inv-loop μ-loop
 returns c =
-    let l = c .before .before .before .before .before .before .before .before .before .before .before .before .before .before .before .before .before .before .before .before .before .before .before .before .before .before .before .before .before .before .before .before .before .loop in
+    let l = turn-2 (after-take-line-2 c) .loop in
     let i = l .inv in
-    let a = c .before .before .before .before .before .before .before .before .before .before .before .before .before .before .before .before .before .before .before .before .before .before .before .before .before .before .before .before .before .before .before .before .before .before .before .before .before .before .before .args in
-    let w = c .before .before .before .before .before .before .before .before .before .before .before .before .before .before .before .before .before .before .before .before .before .before .before .before .before .take-line in
+    let a = entry (turn-2 (after-take-line-2 c) .before) .args in
+    let w = after-take-line-2 c .take-line in
     let d = w .ensures .1 in
-    let e = c .before .before .before .before .before .before .before .before .before .before .before .before .before .before .before .before .before .before .before .before .before .before .before .before .before .before .before .before .before .before .before .cut-line in
-    let x = c .before .before .before .before .before .before .before .before .before .before .before .before .before .before .before .w .given .0 .0 in
-    let t : Step = stepOf lowest limits (reading (l .p .phase) (keysIn (l .p .head)) (i .rows) (i .lines)) (take (e .result .stop - l .at) (drop (l .at) (a .text .now))) in
-    let q : t ≡ stop x = taken-stop limits t (w .result) x _ (w .ensures .0 (i .rows) (i .lines) (i .holding)) (c .before .before .before .before .before .before .before .before .before .before .before .before .before .before .before .w .given .1) in
+    let e = after-cut-line (after-take-line-2 c) .cut-line in
+    let x = after-w (after-wipe c) .w .given .0 .0 in
+    let t : LineStep = lineStep lowest limits (reading (l .p .phase) (keysIn (l .p .head)) (i .rows) (i .lines))
+    (take (e .result .stop - l .at) (drop (l .at) (a .text .now))) in
+    let q : t ≡ stop x = taken-stop limits t (w .result) x _ (w .ensures .0 (i .rows) (i .lines) (i .holding)) (after-w (after-wipe c) .w .given .1) in
     let r : loadOf limits (a .text .now) ≡ refused x (l .k + 1) =
     i .pending
-    ∙ run-step limits (a .text .now) (l .at) (e .result .stop) (e .result .next) (l .k) _ (c .before .before .before .before .before .before .before .before .before .before .before .before .before .before .before .before .before .before .before .before .before .before .before .before .before .before .before .before .before .before .before .before .loop-test .taken) (e .ensures .0) (e .ensures .1)
+    ∙ run-step limits (a .text .now) (l .at) (e .result .stop) (e .result .next) (l .k) _
+    (after-cut-line (after-take-line-2 c) .before .loop-test .taken) (e .ensures .0) (e .ensures .1)
     ∙ ap (loadGo lowest limits (l .k + 1) (linesOf (drop (e .result .next) (a .text .now)))) q
     ∙ stop-outcome lowest limits (l .k + 1) _ x in
-    let z = c .before .before .before .before .before .before .before .before .before .wipe .ensures in (
+    let z = after-wipe c .wipe .ensures in (
       c .refuse .ensures ∙ sym (ap loadedAs r),
       refused-left (needed limits) statesOf _ x (l .k + 1) (a .states .now) (w .last .1 .1 .0) _ r (z .0) (d .states-rest ∙ i .beyond .states-rest),
       refused-left (limits .mappings) codesOf _ x (l .k + 1) (a .codes .now) (w .last .1 .1 .1 .0) _ r (z .1) (d .codes-rest ∙ i .beyond .codes-rest),
@@ -141,29 +159,25 @@ returns c =
       refused-left (limits .mappings) orderedOf _ x (l .k + 1) (a .order .now) (w .last .1 .1 .1 .1 .1 .0) _ r (z .3) (d .order-rest ∙ i .beyond .order-rest),
     )
 
-enum-known-w-2 : tie.Need-enum-known-w-2 Inv-loop μ-loop
-enum-known-w-2 c = search needs
-
-loop-less : tie.Need-loop-less Inv-loop μ-loop
-loop-less c = search needs
-
 loop-again : tie.Need-loop-again Inv-loop μ-loop
 loop-again c =
-    let l = c .before .before .before .before .before .before .before .before .before .before .before .before .before .before .before .before .before .before .before .loop in
+    let l = turn-2 (after-take-line c) .loop in
     let i = l .inv in
-    let a = c .before .before .before .before .before .before .before .before .before .before .before .before .before .before .before .before .before .before .before .before .before .before .before .before .before .args in
-    let w = c .before .before .before .before .before .before .before .before .before .before .before .take-line in
+    let a = entry (turn-2 (after-take-line c) .before) .args in
+    let w = after-take-line c .take-line in
     let d = w .ensures .1 in
-    let e = c .before .before .before .before .before .before .before .before .before .before .before .before .before .before .before .before .before .cut-line in
+    let e = after-cut-line (after-take-line c) .cut-line in
     let q = c .before .w2 .given .0 .0 in
-    let t : Step = stepOf lowest limits (reading (l .p .phase) (keysIn (l .p .head)) (i .rows) (i .lines)) (take (e .result .stop - l .at) (drop (l .at) (a .text .now))) in
+    let t : LineStep = lineStep lowest limits (reading (l .p .phase) (keysIn (l .p .head)) (i .rows) (i .lines))
+    (take (e .result .stop - l .at) (drop (l .at) (a .text .now))) in
     let g : Goes limits t q _ = taken-on limits t (w .result) q _ (w .ensures .0 (i .rows) (i .lines) (i .holding)) (c .before .w2 .given .1) in
     record {
       rows = g .rows;
       lines = g .lines;
       pending =
           i .pending
-          ∙ run-step limits (a .text .now) (l .at) (e .result .stop) (e .result .next) (l .k) _ (c .before .before .before .before .before .before .before .before .before .before .before .before .before .before .before .before .before .before .loop-test .taken) (e .ensures .0) (e .ensures .1)
+          ∙ run-step limits (a .text .now) (l .at) (e .result .stop) (e .result .next) (l .k) _
+          (after-cut-line (after-take-line c) .before .loop-test .taken) (e .ensures .0) (e .ensures .1)
           ∙ ap (loadGo lowest limits (l .k + 1) (linesOf (drop (e .result .next) (a .text .now)))) (g .step-is);
       holding = g .holding;
       none-yet-read = none-yet limits (reading (l .p .phase) (keysIn (l .p .head)) (i .rows) (i .lines)) _ _ (g .step-is);
@@ -181,37 +195,15 @@ loop-again c =
       order-kept = w .kept .1 .1 .1 .1 .1 .0 ∙ i .order-kept;
     }
 
-enum-told : tie.Need-enum-told Inv-loop μ-loop
-enum-told c = search needs
-
-wipe-requires-2 : tie.Need-wipe-requires-2 Inv-loop μ-loop
-wipe-requires-2 c κs = search needs
-
-add-refuse : tie.Need-add-refuse Inv-loop μ-loop
-add-refuse c = search needs
-
-refuse-requires-2 : tie.Need-refuse-requires-2 Inv-loop μ-loop
-refuse-requires-2 c κs = search needs
-
-same-length-5 : tie.Need-same-length-5 Inv-loop μ-loop
-same-length-5 c = search needs
-
-same-length-6 : tie.Need-same-length-6 Inv-loop μ-loop
-same-length-6 c = search needs
-
-same-length-7 : tie.Need-same-length-7 Inv-loop μ-loop
-same-length-7 c = search needs
-
-same-length-8 : tie.Need-same-length-8 Inv-loop μ-loop
-same-length-8 c = search needs
-
 returns-2 : tie.Need-returns-2 Inv-loop μ-loop
 returns-2 c =
-    let l = c .before .before .before .before .before .before .before .before .before .before .before .before .before .before .before .before .loop in
+    let l = at-match2-keys2 c .before .before .loop in
     let i = l .inv in
-    let a = c .before .before .before .before .before .before .before .before .before .before .before .before .before .before .before .before .before .before .before .before .before .before .args in
-    let r : loadOf limits (a .text .now) ≡ refused NoEnd (l .k + 1) = i .pending ∙ run-end limits (a .text .now) (l .at) (l .k) _ (c .before .before .before .before .before .before .before .before .before .before .before .before .before .before .before .loop-test .left) ∙ not-ended (l .k) _ (l .p .phase) (c .before .before .before .before .before .before .before .before .before .before .before .before .before .before .match2 .keys2) in
-    let z = c .before .before .before .before .before .before .before .before .before .wipe2 .ensures in (
+    let a = entry (at-match2-keys2 c .before .before .before) .args in
+    let r : loadOf limits (a .text .now) ≡ refused NoEnd (l .k + 1) = i .pending
+    ∙ run-end limits (a .text .now) (l .at) (l .k) _ (at-match2-keys2 c .before .loop-test .left)
+    ∙ not-ended (l .k) _ (l .p .phase) (at-match2-keys2 c .match2 .keys2) in
+    let z = after-wipe2 c .wipe2 .ensures in (
       c .refuse2 .ensures ∙ sym (ap loadedAs r),
       refused-left (needed limits) statesOf _ NoEnd (l .k + 1) (a .states .now) (l .states) _ r (z .0) (i .beyond .states-rest),
       refused-left (limits .mappings) codesOf _ NoEnd (l .k + 1) (a .codes .now) (l .codes) _ r (z .1) (i .beyond .codes-rest),
@@ -219,30 +211,19 @@ returns-2 c =
       refused-left (limits .mappings) orderedOf _ NoEnd (l .k + 1) (a .order .now) (l .order) _ r (z .3) (i .beyond .order-rest),
     )
 
-same-length-9 : tie.Need-same-length-9 Inv-loop μ-loop
-same-length-9 c = search needs
-
-same-length-10 : tie.Need-same-length-10 Inv-loop μ-loop
-same-length-10 c = search needs
-
-same-length-11 : tie.Need-same-length-11 Inv-loop μ-loop
-same-length-11 c = search needs
-
-same-length-12 : tie.Need-same-length-12 Inv-loop μ-loop
-same-length-12 c = search needs
-
 returns-3 : tie.Need-returns-3 Inv-loop μ-loop
 unfolding tableOf
 returns-3 c =
-    let l = c .before .before .before .before .before .loop in
+    let l = after-loop c .before .loop in
     let i = l .inv in
-    let a = c .before .before .before .before .before .before .before .before .before .before .before .args in
+    let a = entry (after-loop c .before .before) .args in
     let h = i .holding in
     let m = h .stored in
     let r : loadOf limits (a .text .now) ≡ accepted (tableOf (reading (l .p .phase) (keysIn (l .p .head)) (i .rows) (i .lines))) =
-    i .pending ∙ run-end limits (a .text .now) (l .at) (l .k) _ (c .before .before .before .before .loop-test .left) ∙ ended (l .k) _ (l .p .phase) (c .before .before .enum-told .given .1) in
+    i .pending ∙ run-end limits (a .text .now) (l .at) (l .k) _ (after-loop c .loop-test .left)
+    ∙ ended (l .k) _ (l .p .phase) (c .before .before .enum-told .given .1) in
     let n = record-left limits (a .text .now) (l .p .phase) (l .p .head) (l .p .mappings) (i .rows) (i .lines) _ (omega arith) h r in (
-      accepted-as _ _ _ r n,
+      accepted-as _ _ _ r (c .record-of .ensures ∙ n),
       accepted-left (needed limits) statesOf _ _ (a .states .now) (l .states) r (h .states-are) (i .beyond .states-rest),
       accepted-left (limits .mappings) codesOf _ _ (a .codes .now) (l .codes) r (m .codes-are) (i .beyond .codes-rest),
       accepted-left (limits .mappings) infosOf _ _ (a .infos .now) (l .infos) r (m .infos-are) (i .beyond .infos-rest),
@@ -252,38 +233,10 @@ returns-3 c =
 pub run-spec : {M : Type 1} → statement M
 run-spec =
     tie.close
-    (tie.spec
-    Inv-loop
-    μ-loop
-    loop-holds
-    cut-line-requires
-    add-k
-    sub-take-line
-    part-take-line-start
-    part-take-line-end
-    take-line-requires
-    enum-known-w
-    wipe-requires
-    refuse-requires
-    same-length
-    same-length-2
-    same-length-3
-    same-length-4
-    returns
-    enum-known-w-2
-    loop-less
-    loop-again
-    enum-told
-    wipe-requires-2
-    add-refuse
-    refuse-requires-2
-    same-length-5
-    same-length-6
-    same-length-7
-    same-length-8
-    returns-2
-    same-length-9
-    same-length-10
-    same-length-11
-    same-length-12
-    returns-3)
+    (tie.spec Inv-loop μ-loop loop-holds (λ c κs. search needs) (λ c. search needs) (λ c. search needs)
+    (λ c. search needs) (λ c. search needs) take-line-requires (λ c. search needs) (λ c κs. search needs)
+    (λ c κs. search needs) same-length same-length-2 same-length-3 same-length-4 returns (λ c. search needs)
+    (λ c. search needs) loop-again (λ c. search needs) (λ c κs. search needs) (λ c. search needs)
+    (λ c κs. search needs) (λ c. search needs) (λ c. search needs) (λ c. search needs) (λ c. search needs)
+    returns-2 (λ c κs. search needs) (λ c. search needs) (λ c. search needs) (λ c. search needs)
+    (λ c. search needs) returns-3)

@@ -7,12 +7,6 @@ use borrow.Author.Needs.{needs}
 use Rattle.table.proofs.lookup.mapping_of.Statement.{statement}
 use Rattle.table.proofs.lookup.mapping_of.Tie as tie
 
-add-t5 : tie.Need-add-t5
-add-t5 c = search needs
-
-use-of-requires : tie.Need-use-of-requires
-use-of-requires c κs = search needs
-
 returns : tie.Need-returns
 returns c =
     let a = c .before .args in
@@ -20,4 +14,4 @@ returns c =
     ap (λ (u : Use). record { point = a .info % 2097152; code = code; used = u }) (c .use-of .ensures)
 
 pub mapping-of-spec : {M : Type 1} → statement M
-mapping-of-spec = tie.close (tie.spec add-t5 use-of-requires returns)
+mapping-of-spec = tie.close (tie.spec (λ c. search needs) (λ c κs. search needs) returns)

@@ -5,18 +5,6 @@ use borrow.Author.Needs.{needs}
 use Rattle.table.proofs.mapping.is_end.Statement.{statement}
 use Rattle.table.proofs.mapping.is_end.Tie as tie
 
-slice-aggregate-word : tie.Need-slice-aggregate-word
-slice-aggregate-word c = search needs
-
-word-requires : tie.Need-word-requires
-word-requires c κs = search needs
-
-add-e : tie.Need-add-e
-add-e c = search needs
-
-skip-requires : tie.Need-skip-requires
-skip-requires c κs = search needs
-
 returns : tie.Need-returns
 unfolding isEnd
 returns c = search (scan, ← c .before .before .before .word .ensures, c .before .before .if1 .taken, ← c .before .skip .ensures .0)
@@ -31,9 +19,6 @@ returns-2 c =
       c .before .before .before .if1 .taken,
       ← c .before .before .skip .ensures .0,
     )
-
-is-charmap-requires : tie.Need-is-charmap-requires
-is-charmap-requires c κs = search needs
 
 returns-3 : tie.Need-returns-3
 unfolding isEnd
@@ -53,13 +38,5 @@ returns-4 c = rw (← c .before .word .ensures, c .if1 .left)
 pub is-end-spec : {M : Type 1} → statement M
 is-end-spec =
     tie.close
-    (tie.spec
-    slice-aggregate-word
-    word-requires
-    add-e
-    skip-requires
-    returns
-    returns-2
-    is-charmap-requires
-    returns-3
-    returns-4)
+    (tie.spec (λ c. search needs) (λ c κs. search needs) (λ c. search needs) (λ c κs. search needs) returns
+    returns-2 (λ c κs. search needs) returns-3 returns-4)

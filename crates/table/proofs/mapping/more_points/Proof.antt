@@ -1,10 +1,13 @@
+-- Invariant (Going): the code points from `at` on are those from i on, and `several` is 1 if one lies before i.
+-- Measure: bytes left.
 use mathlib.Core.Path.{_≡_, refl, sym, _∙_}
 use mathlib.Core.Bool.{true, false}
 use mathlib.Core.List.{List}
 use Prim.Native.Nat.{ℕ, _+_, _-_, _≤_}
 use native.Mathlib.Omega.{arith}
 use lib.ListN.{length}
-use Rattle.table.specs.Text.{unicodeAt, plusAt, joinAt, Keeps}
+use Rattle.table.specs.Text.{unicodeAt, plusAt, joinAt}
+use Rattle.table.specs.loops.Ranges.{NumAtMost}
 use Rattle.table.specs.Mapping.{pointsMore}
 use Rattle.table.proofs.TextLaws.{unicode-forth}
 use Rattle.table.proofs.MappingLaws.{points-more, points-wrong, points-done}
@@ -27,30 +30,27 @@ abbrev μ-loop : tie.MeasureT-loop
 μ-loop s at i₀ several₀ i several = length s - i
 
 loop-holds : tie.Need-loop-holds Inv-loop μ-loop
-loop-holds c = record { fuel = length (c .before .args .s .now); pending = refl; enough = omega arith; from = omega arith; inside = omega arith; one = omega arith }
-
-skip-requires : tie.Need-skip-requires Inv-loop μ-loop
-skip-requires c κs = search needs
-
-plus-requires : tie.Need-plus-requires Inv-loop μ-loop
-plus-requires c κs = search needs
-
-join-requires : tie.Need-join-requires Inv-loop μ-loop
-join-requires c κs = search needs
-
-unicode-requires : tie.Need-unicode-requires Inv-loop μ-loop
-unicode-requires c κs = search needs
-
-enum-told : tie.Need-enum-told Inv-loop μ-loop
-enum-told c = search needs
+loop-holds c =
+    record {
+      fuel = length (c .before .args .s
+          .now);
+      pending = refl;
+      enough = omega arith;
+      from = omega arith;
+      inside = omega arith;
+      one = omega arith;
+    }
 
 returns : tie.Need-returns Inv-loop μ-loop
-unfolding Keeps
+unfolding NumAtMost
 returns c =
-    let h : plusAt (c .before .before .before .before .before .before .before .before .before .args .s .now) (c .before .before .before .before .before .before .before .loop .i) ≡ true = rw (c .before .before .before .before .before .before .skip .ensures .0) at (sym (c .before .before .before .before .before .plus .ensures) ∙ c .if1 .taken) in (
+    let after-join = c .before .before .before .before in
+    let entry = after-join .before .before .before .before .before in
+    let h : plusAt (entry .args .s .now) (after-join .before .before .before .loop .i) ≡ true = rw
+    (after-join .before .before .skip .ensures .0) at (sym (after-join .before .plus .ensures) ∙ c .if1 .taken) in (
       rw (
-        c .before .before .before .before .before .before .before .loop .inv .pending,
-        ← c .before .before .before .before .join .ensures .0,
+        after-join .before .before .before .loop .inv .pending,
+        ← after-join .join .ensures .0,
         ← c .before .before .before .unicode .ensures .0,
         c .before .enum-told .given .1,
       ) (sym (points-wrong _ _ _ _ h)),
@@ -58,47 +58,51 @@ returns c =
     )
 
 returns-2 : tie.Need-returns-2 Inv-loop μ-loop
-unfolding Keeps
+unfolding NumAtMost
 returns-2 c =
-    let h : plusAt (c .before .before .before .before .before .before .before .before .before .args .s .now) (c .before .before .before .before .before .before .before .loop .i) ≡ false = rw (c .before .before .before .before .before .before .skip .ensures .0) at (sym (c .before .before .before .before .before .plus .ensures) ∙ c .if1 .left) in
-    let l = c .before .before .before .before .before .before .before .loop .inv in (
+    let after-join = c .before .before .before .before in
+    let entry = after-join .before .before .before .before .before in
+    let h : plusAt (entry .args .s .now) (after-join .before .before .before .loop .i) ≡ false = rw
+    (after-join .before .before .skip .ensures .0) at (sym (after-join .before .plus .ensures) ∙ c .if1 .left) in
+    let l = after-join .before .before .before .loop .inv in (
       rw (
-        c .before .before .before .before .before .before .before .loop .inv .pending,
-        ← c .before .before .before .before .join .ensures .0,
+        after-join .before .before .before .loop .inv .pending,
+        ← after-join .join .ensures .0,
         ← c .before .before .before .unicode .ensures .0,
         c .before .enum-told .given .1,
       ) (sym (points-done _ _ _ _ h)),
       (l .from, l .inside, l .one),
     )
 
-enum-known-n : tie.Need-enum-known-n Inv-loop μ-loop
-enum-known-n c = search needs
-
 loop-less : tie.Need-loop-less Inv-loop μ-loop
-unfolding Keeps
+unfolding NumAtMost
 loop-less c =
+    let after-join = c .before .before .before .before in
+    let entry = after-join .before .before .before .before .before in
     let h = rw (c .before .n .given .1) at (c .before .before .before .unicode .ensures .1) in
     let g = rw (
       ← c .before .before .before .unicode .ensures .0,
       c .before .n .given .1,
-    ) at (unicode-forth (c .before .before .before .before .before .before .before .before .before .args .s .now) (c .before .before .before .before .join .result)) in
+    ) at (unicode-forth (entry .args .s .now) (after-join .join .result)) in
     omega arith
 
 loop-again : tie.Need-loop-again Inv-loop μ-loop
-unfolding Keeps
+unfolding NumAtMost
 loop-again c =
-    let s = c .before .before .before .before .before .before .before .before .before .args .s .now in
-    let l = c .before .before .before .before .before .before .before .loop .inv in
+    let after-join = c .before .before .before .before in
+    let entry = after-join .before .before .before .before .before in
+    let s = entry .args .s .now in
+    let l = after-join .before .before .before .loop .inv in
     let h = rw (c .before .n .given .1) at (c .before .before .before .unicode .ensures .1) in
     let g = rw (
       ← c .before .before .before .unicode .ensures .0,
       c .before .n .given .1,
-    ) at (unicode-forth s (c .before .before .before .before .join .result)) in
+    ) at (unicode-forth s (after-join .join .result)) in
     record {
       fuel = l .fuel - 1;
       pending = rw (
         l .pending,
-        ← c .before .before .before .before .join .ensures .0,
+        ← after-join .join .ensures .0,
         ← c .before .before .before .unicode .ensures .0,
         c .before .n .given .1,
       ) (points-more (l .fuel) s _ _ _ _ (omega (
@@ -114,17 +118,5 @@ loop-again c =
 pub more-points-spec : {M : Type 1} → statement M
 more-points-spec =
     tie.close
-    (tie.spec
-    Inv-loop
-    μ-loop
-    loop-holds
-    skip-requires
-    plus-requires
-    join-requires
-    unicode-requires
-    enum-told
-    returns
-    returns-2
-    enum-known-n
-    loop-less
-    loop-again)
+    (tie.spec Inv-loop μ-loop loop-holds (λ c κs. search needs) (λ c κs. search needs) (λ c κs. search needs)
+    (λ c κs. search needs) (λ c. search needs) returns returns-2 (λ c. search needs) loop-less loop-again)

@@ -1,19 +1,13 @@
 use mathlib.Core.Path.{sym, _∙_}
 use native.Mathlib.Omega.{arith}
-use Rattle.table.specs.Mapping.{lastAt, lastOf}
+use Rattle.table.specs.Mapping.{afterEndAt, afterEndOf}
 use Rattle.table.proofs.TextLaws.{ends-inside}
 use borrow.Author.Needs.{needs}
 use Rattle.table.proofs.mapping.read_last.Statement.{statement}
 use Rattle.table.proofs.mapping.read_last.Tie as tie
 
-skip-requires : tie.Need-skip-requires
-skip-requires c κs = search needs
-
-ends-requires : tie.Need-ends-requires
-ends-requires c κs = search needs
-
 returns : tie.Need-returns
-unfolding lastOf lastAt
+unfolding afterEndOf afterEndAt
 returns c = rw (← c .before .before .skip .ensures .0, ← c .before .ends .ensures, c .if1 .taken)
 
 is-charmap-requires : tie.Need-is-charmap-requires
@@ -22,7 +16,7 @@ is-charmap-requires c κs =
     omega arith
 
 returns-2 : tie.Need-returns-2
-unfolding lastOf lastAt
+unfolding afterEndOf afterEndAt
 returns-2 c =
     rw (
       ← c .before .before .before .before .skip .ensures .0,
@@ -33,7 +27,7 @@ returns-2 c =
     )
 
 returns-3 : tie.Need-returns-3
-unfolding lastOf lastAt
+unfolding afterEndOf afterEndAt
 returns-3 c =
     rw (
       ← c .before .before .before .before .skip .ensures .0,
@@ -46,4 +40,4 @@ returns-3 c =
 pub read-last-spec : {M : Type 1} → statement M
 read-last-spec =
     tie.close
-    (tie.spec skip-requires ends-requires returns is-charmap-requires returns-2 returns-3)
+    (tie.spec (λ c κs. search needs) (λ c κs. search needs) returns is-charmap-requires returns-2 returns-3)

@@ -17,6 +17,9 @@ Inv-loop states row s from at-row₀ at₀ at-row at =
 abbrev μ-loop : tie.MeasureT-loop
 μ-loop states row s from at-row₀ at₀ at-row at = 4 - at
 
+abbrev turn : tie.After-step-at Inv-loop μ-loop → tie.At-loop Inv-loop μ-loop
+turn c = c .before .before .before .before
+
 loop-holds : tie.Need-loop-holds Inv-loop μ-loop
 loop-holds c = ((λ first. refl), omega arith)
 
@@ -26,53 +29,32 @@ returns c =
     let a = c .before .before .before .before .before .args in
     λ first. sym (cut-end (stepAt (a .states .now)) first (4 - q .at) (q .at-row) (q .at) (a .s .now) (λ e. omega arith) (c .if1 .taken)) ∙ q .inv .0 first
 
-shared-slice-read-step-at : tie.Need-shared-slice-read-step-at Inv-loop μ-loop
-shared-slice-read-step-at c = search needs
-
-step-at-requires : tie.Need-step-at-requires Inv-loop μ-loop
-step-at-requires c κs = search needs
-
-enum-told : tie.Need-enum-told Inv-loop μ-loop
-enum-told c = search needs
-
-add-t15 : tie.Need-add-t15 Inv-loop μ-loop
-add-t15 c = search needs
-
 returns-2 : tie.Need-returns-2 Inv-loop μ-loop
 returns-2 c =
-    let q = c .before .before .before .before .before .before .loop in
-    let a = c .before .before .before .before .before .before .before .before .before .args in
-    λ first. sym (cut-here (stepAt (a .states .now)) first (4 - q .at) (q .at-row) (q .at) (a .s .now) Illegal (λ e. omega arith) (omega arith) (sym (c .before .before .step-at .ensures) ∙ c .enum-told .given .1)) ∙ q .inv .0 first
-
-enum-known-e : tie.Need-enum-known-e Inv-loop μ-loop
-enum-known-e c = search needs
-
-add-t17 : tie.Need-add-t17 Inv-loop μ-loop
-add-t17 c = search needs
+    let q = turn (c .before .before) .loop in
+    let a = turn (c .before .before) .before .before .before .args in
+    λ first. sym (cut-here (stepAt (a .states .now)) first (4 - q .at) (q .at-row) (q .at) (a .s .now) Illegal
+    (λ e. omega arith) (omega arith) (sym (c .before .before .step-at .ensures) ∙ c .enum-told .given .1))
+    ∙ q .inv .0 first
 
 returns-3 : tie.Need-returns-3 Inv-loop μ-loop
 returns-3 c =
-    let q = c .before .before .before .before .before .before .before .loop in
-    let a = c .before .before .before .before .before .before .before .before .before .before .args in
-    λ first. sym (cut-here (stepAt (a .states .now)) first (4 - q .at) (q .at-row) (q .at) (a .s .now) (Ends (c .before .e .given .0 .0)) (λ e. omega arith) (omega arith) (sym (c .before .before .before .step-at .ensures) ∙ c .before .e .given .1)) ∙ q .inv .0 first
-
-enum-known-n : tie.Need-enum-known-n Inv-loop μ-loop
-enum-known-n c = search needs
-
-add-at : tie.Need-add-at Inv-loop μ-loop
-add-at c = search needs
-
-loop-less : tie.Need-loop-less Inv-loop μ-loop
-loop-less c = search needs
+    let q = turn (c .before .before .before) .loop in
+    let a = turn (c .before .before .before) .before .before .before .args in
+    λ first. sym (cut-here (stepAt (a .states .now)) first (4 - q .at) (q .at-row) (q .at) (a .s .now)
+    (Ends (c .before .e .given .0 .0)) (λ e. omega arith) (omega arith)
+    (sym (c .before .before .before .step-at .ensures) ∙ c .before .e .given .1)) ∙ q .inv .0 first
 
 loop-again : tie.Need-loop-again Inv-loop μ-loop
 loop-again c =
-    let q = c .before .before .before .before .before .before .before .loop in
-    let l = c .before .before .before .before .before .before .before .before .before .before .args .states .now in
-    let a = c .before .before .before .before .before .before .before .before .before .before .args in
+    let q = turn (c .before .before .before) .loop in
+    let l = turn (c .before .before .before) .before .before .before .args .states .now in
+    let a = turn (c .before .before .before) .before .before .before .args in
     let m : 4 - (q .at + 1) ≡ 4 - q .at - 1 = omega arith in (
       (λ first. ap (λ (f : ℕ). cutFrom (stepAt l) first f (c .before .n .given .0 .0) (q .at + 1) (drop (q .at + 1) (a .s .now))) m
-          ∙ sym (cut-here (stepAt l) first (4 - q .at) (q .at-row) (q .at) (a .s .now) (Leads (c .before .n .given .0 .0)) (λ e. omega arith) (omega arith) (sym (c .before .before .before .step-at .ensures) ∙ c .before .n .given .1))
+          ∙ sym (cut-here (stepAt l) first (4 - q .at) (q .at-row) (q .at) (a .s .now)
+          (Leads (c .before .n .given .0 .0)) (λ e. omega arith) (omega arith)
+          (sym (c .before .before .before .step-at .ensures) ∙ c .before .n .given .1))
           ∙ q .inv .0 first),
       omega arith,
     )
@@ -86,21 +68,6 @@ returns-4 c =
 pub cut-on-spec : {M : Type 1} → statement M
 cut-on-spec =
     tie.close
-    (tie.spec
-    Inv-loop
-    μ-loop
-    loop-holds
-    returns
-    shared-slice-read-step-at
-    step-at-requires
-    enum-told
-    add-t15
-    returns-2
-    enum-known-e
-    add-t17
-    returns-3
-    enum-known-n
-    add-at
-    loop-less
-    loop-again
-    returns-4)
+    (tie.spec Inv-loop μ-loop loop-holds returns (λ c. search needs) (λ c κs. search needs)
+    (λ c. search needs) (λ c. search needs) returns-2 (λ c. search needs) (λ c. search needs) returns-3
+    (λ c. search needs) (λ c. search needs) (λ c. search needs) loop-again returns-4)

@@ -1,5 +1,5 @@
--- One step of the definition (end-here): only an end ends the code.
-use Rattle.table.proofs.Cuts.{end-here}
+-- One step of the definition (endKind-unpacked): only an end ends the code.
+use Rattle.table.proofs.Cuts.{endKind-unpacked}
 use Rattle.table.specs.declared.states.Step.the-variants.{Illegal, Ends, Leads}
 use Rattle.table.specs.States.{stepAt, endKind}
 use Rattle.table.specs.Codes.{unpacked}
@@ -9,48 +9,29 @@ use borrow.Author.Needs.{needs}
 use Rattle.table.proofs.states.last_kind.Statement.{statement}
 use Rattle.table.proofs.states.last_kind.Tie as tie
 
-cast-step-at : tie.Need-cast-step-at
-cast-step-at c = search needs
-
-step-at-requires : tie.Need-step-at-requires
-step-at-requires c κs = search needs
-
-enum-told : tie.Need-enum-told
-enum-told c = search needs
-
-enum-known-e : tie.Need-enum-known-e
-enum-known-e c = search needs
-
-enum-told-2 : tie.Need-enum-told-2
-enum-told-2 c = search needs
-
 returns : tie.Need-returns
 unfolding unpacked
 returns c =
     let a = c .before .before .before .before .args in
-    sym (end-here (stepAt (a .states .now)) (a .row) 1 (a .bits) Illegal (omega arith) (sym (c .before .before .step-at .ensures) ∙ c .enum-told .given .1))
+    sym (endKind-unpacked (stepAt (a .states .now)) (a .row) 1 (a .bits) Illegal (omega arith)
+    (sym (c .before .before .step-at .ensures) ∙ c .enum-told .given .1))
 
 returns-2 : tie.Need-returns-2
 unfolding unpacked
 returns-2 c =
     let a = c .before .before .before .before .before .args in
-    sym (end-here (stepAt (a .states .now)) (a .row) 1 (a .bits) (Ends (c .before .e .given .0 .0)) (omega arith) (sym (c .before .before .before .step-at .ensures) ∙ c .before .e .given .1))
+    sym (endKind-unpacked (stepAt (a .states .now)) (a .row) 1 (a .bits) (Ends (c .before .e .given .0 .0)) (omega arith)
+    (sym (c .before .before .before .step-at .ensures) ∙ c .before .e .given .1))
 
 returns-3 : tie.Need-returns-3
 unfolding unpacked endKind
 returns-3 c =
     let a = c .before .before .before .before .args in
-    sym (end-here (stepAt (a .states .now)) (a .row) 1 (a .bits) (Leads (c .enum-told2 .given .0 .0)) (omega arith) (sym (c .before .before .step-at .ensures) ∙ c .enum-told2 .given .1))
+    sym (endKind-unpacked (stepAt (a .states .now)) (a .row) 1 (a .bits) (Leads (c .enum-told2 .given .0 .0)) (omega arith)
+    (sym (c .before .before .step-at .ensures) ∙ c .enum-told2 .given .1))
 
 pub last-kind-spec : {M : Type 1} → statement M
 last-kind-spec =
     tie.close
-    (tie.spec
-    cast-step-at
-    step-at-requires
-    enum-told
-    enum-known-e
-    enum-told-2
-    returns
-    returns-2
-    returns-3)
+    (tie.spec (λ c. search needs) (λ c κs. search needs) (λ c. search needs) (λ c. search needs)
+    (λ c. search needs) returns returns-2 returns-3)

@@ -1,3 +1,5 @@
+-- Invariant: `out` is false exactly of the rows that a mark before j leads to a row where `below` is false.
+-- Measure: marks left.
 use Prim.Native.Nat.{_-_, _*_, _≤_}
 use mathlib.Core.Path.{_≡_, refl}
 use mathlib.Core.Bool.{false}
@@ -16,22 +18,10 @@ Inv-loop marks rows below out₀ count j₀ out j = Levelled marks below out j �
 abbrev μ-loop : tie.MeasureT-loop
 μ-loop marks rows below out₀ count j₀ out j = rows * limits .rows - j
 
-mul-count : tie.Need-mul-count Inv-loop μ-loop
-mul-count c = search needs
-
 loop-holds : tie.Need-loop-holds Inv-loop μ-loop
 loop-holds c =
     let a = c .args in
     (level-none (a .marks .now) (a .t3), refl, omega arith)
-
-element-copy-out-if1 : tie.Need-element-copy-out-if1 Inv-loop μ-loop
-element-copy-out-if1 c = search needs
-
-add-j : tie.Need-add-j Inv-loop μ-loop
-add-j c = search needs
-
-loop-less : tie.Need-loop-less Inv-loop μ-loop
-loop-less c = search needs
 
 loop-again : tie.Need-loop-again Inv-loop μ-loop
 loop-again c =
@@ -39,35 +29,25 @@ loop-again c =
     let a = c .before .before .before .before .args in
     (level-skip (a .marks .now) (a .t3) (q .j) (q .out) (rw (not-true (getD (a .marks .now) (q .j) false) (c .if1 .taken))) (q .inv .0), q .inv .1, omega arith)
 
-array-read-if2 : tie.Need-array-read-if2 Inv-loop μ-loop
-array-read-if2 c = search needs
-
-add-j-2 : tie.Need-add-j-2 Inv-loop μ-loop
-add-j-2 c = search needs
-
-loop-less-2 : tie.Need-loop-less-2 Inv-loop μ-loop
-loop-less-2 c = search needs
-
 loop-again-2 : tie.Need-loop-again-2 Inv-loop μ-loop
 loop-again-2 c =
     let q = c .before .before .before .before .loop in
-    let a = c .before .before .before .before .before .args in
-    (level-skip (a .marks .now) (a .t3) (q .j) (q .out) (rw (not-false (getD (a .marks .now) (q .j) false) (c .before .if1 .left)) (c .if2 .taken)) (q .inv .0), q .inv .1, omega arith)
-
-array-write-out : tie.Need-array-write-out Inv-loop μ-loop
-array-write-out c = search needs
-
-add-j-3 : tie.Need-add-j-3 Inv-loop μ-loop
-add-j-3 c = search needs
-
-loop-less-3 : tie.Need-loop-less-3 Inv-loop μ-loop
-loop-less-3 c = search needs
+    let a = c .before .before .before .before .before .args in (
+      level-skip (a .marks .now) (a .t3) (q .j) (q .out)
+          (rw (not-false (getD (a .marks .now) (q .j) false) (c .before .if1 .left)) (c .if2 .taken)) (q .inv .0),
+      q .inv .1,
+      omega arith,
+    )
 
 loop-again-3 : tie.Need-loop-again-3 Inv-loop μ-loop
 loop-again-3 c =
     let q = c .before .before .before .before .loop in
-    let a = c .before .before .before .before .before .args in
-    (level-clear (a .marks .now) (a .t3) (q .j) (q .out) (q .inv .1) (omega arith) (rw (not-false (getD (a .marks .now) (q .j) false) (c .before .if1 .left)) (c .if2 .left)) (q .inv .0), simp length-set (q .inv .1), omega arith)
+    let a = c .before .before .before .before .before .args in (
+      level-clear (a .marks .now) (a .t3) (q .j) (q .out) (q .inv .1) (omega arith)
+          (rw (not-false (getD (a .marks .now) (q .j) false) (c .before .if1 .left)) (c .if2 .left)) (q .inv .0),
+      simp length-set (q .inv .1),
+      omega arith,
+    )
 
 returns : tie.Need-returns Inv-loop μ-loop
 returns c =
@@ -79,21 +59,6 @@ returns c =
 pub level-spec : {M : Type 1} → statement M
 level-spec =
     tie.close
-    (tie.spec
-    Inv-loop
-    μ-loop
-    mul-count
-    loop-holds
-    element-copy-out-if1
-    add-j
-    loop-less
-    loop-again
-    array-read-if2
-    add-j-2
-    loop-less-2
-    loop-again-2
-    array-write-out
-    add-j-3
-    loop-less-3
-    loop-again-3
-    returns)
+    (tie.spec Inv-loop μ-loop (λ c. search needs) loop-holds (λ c. search needs) (λ c. search needs)
+    (λ c. search needs) loop-again (λ c. search needs) (λ c. search needs) (λ c. search needs) loop-again-2
+    (λ c. search needs) (λ c. search needs) (λ c. search needs) loop-again-3 returns)

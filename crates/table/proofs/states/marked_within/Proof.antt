@@ -1,3 +1,5 @@
+-- Invariant: `reach` is true exactly of the rows from which every way leads on fewer than d times.
+-- Measure: levels left, max - d.
 use Prim.Native.Nat.{ℕ, _-_, _<_, _≤_}
 use mathlib.Core.Path.{_≡_, ap, _∙_}
 use mathlib.Core.Bool.{false}
@@ -5,7 +7,7 @@ use native.Mathlib.Omega.{arith}
 use borrow.Author.Needs.{needs}
 use lib.ListN.{getD, getD-replicate}
 use Rattle.table.specs.Limits.{limits}
-use Rattle.table.specs.LeadMarks.{markedWithin}
+use Rattle.table.specs.loops.LeadMarks.{markedWithin}
 use Rattle.table.proofs.Marking.{marked-step}
 use Rattle.table.proofs.states.marked_within.Statement.{statement}
 use Rattle.table.proofs.states.marked_within.Tie as tie
@@ -20,23 +22,11 @@ loop-holds : tie.Need-loop-holds Inv-loop μ-loop
 unfolding markedWithin
 loop-holds c = (λ k h. getD-replicate (limits .rows) k false false h, omega arith)
 
-level-requires : tie.Need-level-requires Inv-loop μ-loop
-level-requires c κs = search needs
-
-add-d : tie.Need-add-d Inv-loop μ-loop
-add-d c = search needs
-
-loop-less : tie.Need-loop-less Inv-loop μ-loop
-loop-less c = search needs
-
 loop-again : tie.Need-loop-again Inv-loop μ-loop
 loop-again c =
     let q = c .before .before .loop in
     let a = c .before .before .before .args in
     (λ k h. c .level .ensures k h ∙ marked-step (a .rows) (a .marks .now) (q .reach) (q .d) (q .inv .0) k, omega arith)
-
-array-read-result : tie.Need-array-read-result Inv-loop μ-loop
-array-read-result c = search needs
 
 returns : tie.Need-returns Inv-loop μ-loop
 returns c =
@@ -48,13 +38,5 @@ returns c =
 pub marked-within-spec : {M : Type 1} → statement M
 marked-within-spec =
     tie.close
-    (tie.spec
-    Inv-loop
-    μ-loop
-    loop-holds
-    level-requires
-    add-d
-    loop-less
-    loop-again
-    array-read-result
-    returns)
+    (tie.spec Inv-loop μ-loop loop-holds (λ c κs. search needs) (λ c. search needs) (λ c. search needs)
+    loop-again (λ c. search needs) returns)

@@ -1,12 +1,9 @@
 -- One index renumbered: one test.
-use Rattle.table.specs.Search.{bump}
+use Rattle.lists.specs.Place.{bump}
 use Rattle.lists.proofs.Laws.{tests}
 use borrow.Author.Needs.{needs}
 use Rattle.table.proofs.store.bump_index.Statement.{statement}
 use Rattle.table.proofs.store.bump_index.Tie as tie
-
-add-result : tie.Need-add-result
-add-result c = search needs
 
 returns : tie.Need-returns
 unfolding bump
@@ -17,4 +14,4 @@ unfolding bump
 returns-2 c = search tests
 
 pub bump-index-spec : {M : Type 1} → statement M
-bump-index-spec = tie.close (tie.spec add-result returns returns-2)
+bump-index-spec = tie.close (tie.spec (λ c. search needs) returns returns-2)

@@ -1,7 +1,7 @@
 -- The definition's three tests, in its order; the length that the code compares.
 use Prim.Native.Nat.{_+_, _/_}
 use mathlib.Core.Path.{_≡_}
-use Rattle.table.specs.Search.{readsCode}
+use Rattle.table.specs.loops.Search.{readsCode}
 use Rattle.lists.proofs.Laws.{tests}
 use native.Mathlib.Omega.{arith}
 use borrow.Author.Needs.{needs}
@@ -11,9 +11,6 @@ use Rattle.table.proofs.store.reads_code.Tie as tie
 returns : tie.Need-returns
 unfolding readsCode
 returns c = search tests
-
-add-if2 : tie.Need-add-if2
-add-if2 c = search needs
 
 returns-2 : tie.Need-returns-2
 unfolding readsCode
@@ -30,4 +27,4 @@ returns-3 c =
     search tests
 
 pub reads-code-spec : {M : Type 1} → statement M
-reads-code-spec = tie.close (tie.spec returns add-if2 returns-2 returns-3)
+reads-code-spec = tie.close (tie.spec returns (λ c. search needs) returns-2 returns-3)

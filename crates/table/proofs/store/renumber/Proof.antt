@@ -1,7 +1,7 @@
 -- Invariant: the indices before k are renumbered, the others as they were. Measure: how many are left.
 use borrow.Author.Needs.{needs}
-use Rattle.table.proofs.Inserted.{bumped, bumped-at, bumped-set, bump-none, small-at}
-use Rattle.table.specs.Search.{bump}
+use Rattle.lists.proofs.Place.{getD-bumped, set-bumped, bumped, map-bump-none, getD-take-<}
+use Rattle.lists.specs.Place.{bump}
 use lib.ListN.{length, take, getD, length-set, take-append-drop}
 use native.Mathlib.Omega.{arith}
 use Prim.Native.Nat.{ℕ, _-_, _<_, _≤_}
@@ -16,10 +16,13 @@ Inv-loop order₀ n at from k₀ order k = (order ≡ bumped at k order₀) × (
 abbrev μ-loop : tie.MeasureT-loop
 μ-loop order₀ n at from k₀ order k = n - k
 
+abbrev entry : tie.After-slice-known2 Inv-loop μ-loop → tie.Start Inv-loop μ-loop
+entry c = c .before .before .before .before .before
+
 returns : tie.Need-returns Inv-loop μ-loop
 returns c =
     let a = c .before .before .args in
-    sym (rw (bump-none (a .n) (a .at) (take (a .n) (a .order .now)) (c .if1 .taken) (c .before .before .pre .2)) (take-append-drop (a .n) (a .order .now)))
+    sym (rw (map-bump-none (a .n) (a .at) (take (a .n) (a .order .now)) (c .if1 .taken) (c .before .before .pre .2)) (take-append-drop (a .n) (a .order .now)))
 
 cast-from : tie.Need-cast-from Inv-loop μ-loop
 cast-from c = omega arith
@@ -27,42 +30,25 @@ cast-from c = omega arith
 loop-holds : tie.Need-loop-holds Inv-loop μ-loop
 loop-holds c = (refl, omega arith, refl)
 
-mul-bump-index : tie.Need-mul-bump-index Inv-loop μ-loop
-mul-bump-index c = search needs
-
-slice-read-bump-index : tie.Need-slice-read-bump-index Inv-loop μ-loop
-slice-read-bump-index c = search needs
-
 bump-index-requires : tie.Need-bump-index-requires Inv-loop μ-loop
 bump-index-requires c κs =
-    let a = c .before .before .before .before .before .args in
+    let a = entry c .args in
     let l = c .before .before .loop in
     let h : l .k < length (a .order .now) = omega arith in
-    let g = ap (λ (m : List ℕ). getD m (l .k) 0) (l .inv .0) ∙ bumped-at (a .at) (l .k) (a .order .now) h in
-    omega (arith, g, c .before .before .before .before .before .pre .1, small-at (a .n) (l .k) (a .order .now) (c .before .before .before .before .before .pre .0) (c .before .before .before .before .before .pre .2) (c .before .loop-test .taken))
-
-mul-order : tie.Need-mul-order Inv-loop μ-loop
-mul-order c = search needs
-
-slice-write-order : tie.Need-slice-write-order Inv-loop μ-loop
-slice-write-order c = search needs
-
-add-k : tie.Need-add-k Inv-loop μ-loop
-add-k c = search needs
-
-loop-less : tie.Need-loop-less Inv-loop μ-loop
-loop-less c = search needs
+    let g = ap (λ (m : List ℕ). getD m (l .k) 0) (l .inv .0) ∙ getD-bumped (a .at) (l .k) (a .order .now) h in
+    omega (arith, g, entry c .pre .1, getD-take-< (a .n) (l .k) (a .order .now) (entry c .pre .0) (entry c .pre .2) (c .before .loop-test .taken))
 
 loop-again : tie.Need-loop-again Inv-loop μ-loop
 loop-again c =
-    let a = c .before .before .before .before .before .before .args in
+    let a = entry (c .before) .args in
     let l = c .before .before .before .loop in
     let h : l .k < length (a .order .now) = omega arith in
-    let g = ap (λ (m : List ℕ). getD m (l .k) 0) (l .inv .0) ∙ bumped-at (a .at) (l .k) (a .order .now) h in
-    (bumped-set (a .at) (l .k) (a .order .now) h (l .order) _ (l .inv .0) (c .bump-index .ensures ∙ ap (bump (a .at)) g), omega arith, length-set (l .order) (l .k) _ ∙ l .inv .2)
-
-same-length : tie.Need-same-length Inv-loop μ-loop
-same-length c = search needs
+    let g = ap (λ (m : List ℕ). getD m (l .k) 0) (l .inv .0) ∙ getD-bumped (a .at) (l .k) (a .order .now) h in (
+      set-bumped (a .at) (l .k) (a .order .now) h (l .order) _ (l .inv .0)
+          (c .bump-index .ensures ∙ ap (bump (a .at)) g),
+      omega arith,
+      length-set (l .order) (l .k) _ ∙ l .inv .2,
+    )
 
 returns-2 : tie.Need-returns-2 Inv-loop μ-loop
 returns-2 c =
@@ -74,19 +60,6 @@ returns-2 c =
 pub renumber-spec : {M : Type 1} → statement M
 renumber-spec =
     tie.close
-    (tie.spec
-    Inv-loop
-    μ-loop
-    returns
-    cast-from
-    loop-holds
-    mul-bump-index
-    slice-read-bump-index
-    bump-index-requires
-    mul-order
-    slice-write-order
-    add-k
-    loop-less
-    loop-again
-    same-length
-    returns-2)
+    (tie.spec Inv-loop μ-loop returns cast-from loop-holds (λ c. search needs) (λ c. search needs)
+    bump-index-requires (λ c. search needs) (λ c. search needs) (λ c. search needs) (λ c. search needs)
+    loop-again (λ c. search needs) returns-2)

@@ -1,5 +1,5 @@
 -- The definition's two tests, in its order.
-use Rattle.table.specs.Search.{writesPoint}
+use Rattle.table.specs.loops.Search.{writesPoint}
 use Rattle.lists.proofs.Laws.{tests}
 use Rattle.table.proofs.store.writes_point.Statement.{statement}
 use Rattle.table.proofs.store.writes_point.Tie as tie

@@ -8,9 +8,6 @@ returns : tie.Need-returns
 unfolding digitOf
 returns c = (search tests, search needs)
 
-sub-result : tie.Need-sub-result
-sub-result c = search needs
-
 returns-2 : tie.Need-returns-2
 unfolding digitOf
 returns-2 c = (search tests, search needs)
@@ -19,9 +16,6 @@ returns-3 : tie.Need-returns-3
 unfolding digitOf
 returns-3 c = (search tests, search needs)
 
-sub-result-2 : tie.Need-sub-result-2
-sub-result-2 c = search needs
-
 returns-4 : tie.Need-returns-4
 unfolding digitOf
 returns-4 c = (search tests, search needs)
@@ -29,9 +23,6 @@ returns-4 c = (search tests, search needs)
 returns-5 : tie.Need-returns-5
 unfolding digitOf
 returns-5 c = (search tests, search needs)
-
-sub-result-3 : tie.Need-sub-result-3
-sub-result-3 c = search needs
 
 returns-6 : tie.Need-returns-6
 unfolding digitOf
@@ -44,14 +35,5 @@ returns-7 c = (search tests, search needs)
 pub digit-spec : {M : Type 1} → statement M
 digit-spec =
     tie.close
-    (tie.spec
-    returns
-    sub-result
-    returns-2
-    returns-3
-    sub-result-2
-    returns-4
-    returns-5
-    sub-result-3
-    returns-6
-    returns-7)
+    (tie.spec returns (λ c. search needs) returns-2 returns-3 (λ c. search needs) returns-4 returns-5
+    (λ c. search needs) returns-6 returns-7)

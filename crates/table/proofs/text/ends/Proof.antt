@@ -8,12 +8,9 @@ returns : tie.Need-returns
 unfolding endsAt
 returns c = search scan
 
-shared-slice-read-result : tie.Need-shared-slice-read-result
-shared-slice-read-result c = search needs
-
 returns-2 : tie.Need-returns-2
 unfolding endsAt
 returns-2 c = search scan
 
 pub ends-spec : {M : Type 1} → statement M
-ends-spec = tie.close (tie.spec returns shared-slice-read-result returns-2)
+ends-spec = tie.close (tie.spec returns (λ c. search needs) returns-2)

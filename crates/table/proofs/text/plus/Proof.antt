@@ -6,11 +6,8 @@ use Rattle.table.proofs.text.plus.Tie as tie
 returns : tie.Need-returns
 returns c = search scan
 
-shared-slice-read-result : tie.Need-shared-slice-read-result
-shared-slice-read-result c = search needs
-
 returns-2 : tie.Need-returns-2
 returns-2 c = search scan
 
 pub plus-spec : {M : Type 1} → statement M
-plus-spec = tie.close (tie.spec returns shared-slice-read-result returns-2)
+plus-spec = tie.close (tie.spec returns (λ c. search needs) returns-2)

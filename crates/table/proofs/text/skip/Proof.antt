@@ -1,8 +1,9 @@
+-- Invariant: skipping blanks from i on ends where skipping from `at` on ends. Measure: bytes left.
 use mathlib.Core.Path.{_≡_}
 use Prim.Native.Nat.{_-_, _≤_}
 use native.Mathlib.Omega.{arith}
 use lib.ListN.{length, drop}
-use Rattle.lists.proofs.Laws.{tests, drop-step, drop-end}
+use Rattle.lists.proofs.Laws.{tests, drop-∷, drop-past}
 use Rattle.table.specs.Text.{skipOf}
 use borrow.Author.Needs.{needs}
 use Rattle.table.proofs.text.skip.Statement.{statement}
@@ -14,57 +15,28 @@ Inv-loop s at i₀ i = (skipOf at (drop at s) ≡ skipOf i (drop i s)) × (at �
 abbrev μ-loop : tie.MeasureT-loop
 μ-loop s at i₀ i = length s - i
 
-loop-holds : tie.Need-loop-holds Inv-loop μ-loop
-loop-holds c = search needs
-
-shared-slice-read-b : tie.Need-shared-slice-read-b Inv-loop μ-loop
-shared-slice-read-b c = search needs
-
-add-i : tie.Need-add-i Inv-loop μ-loop
-add-i c = search needs
-
-loop-less : tie.Need-loop-less Inv-loop μ-loop
-loop-less c = search needs
-
 loop-again : tie.Need-loop-again Inv-loop μ-loop
 unfolding skipOf
 loop-again c =
     let h = c .before .before .loop-test .taken in
-    (rw (c .before .before .before .loop .inv .0, drop-step) (search tests), omega arith)
-
-add-i-2 : tie.Need-add-i-2 Inv-loop μ-loop
-add-i-2 c = search needs
-
-loop-less-2 : tie.Need-loop-less-2 Inv-loop μ-loop
-loop-less-2 c = search needs
+    (rw (c .before .before .before .loop .inv .0, drop-∷) (search tests), omega arith)
 
 loop-again-2 : tie.Need-loop-again-2 Inv-loop μ-loop
 unfolding skipOf
 loop-again-2 c =
     let h = c .before .before .before .loop-test .taken in
-    (rw (c .before .before .before .before .loop .inv .0, drop-step) (search tests), omega arith)
+    (rw (c .before .before .before .before .loop .inv .0, drop-∷) (search tests), omega arith)
 
 returns : tie.Need-returns Inv-loop μ-loop
 unfolding skipOf
-returns c = (search (tests, drop-step, c .before .before .before .before .loop .inv .0), omega arith)
+returns c = (search (tests, drop-∷, c .before .before .before .before .loop .inv .0), omega arith)
 
 returns-2 : tie.Need-returns-2 Inv-loop μ-loop
 unfolding skipOf
-returns-2 c = (search (tests, drop-end, c .before .loop .inv .0), omega arith)
+returns-2 c = (search (tests, drop-past, c .before .loop .inv .0), omega arith)
 
 pub skip-spec : {M : Type 1} → statement M
 skip-spec =
     tie.close
-    (tie.spec
-    Inv-loop
-    μ-loop
-    loop-holds
-    shared-slice-read-b
-    add-i
-    loop-less
-    loop-again
-    add-i-2
-    loop-less-2
-    loop-again-2
-    returns
-    returns-2)
+    (tie.spec Inv-loop μ-loop (λ c. search needs) (λ c. search needs) (λ c. search needs) (λ c. search needs)
+    loop-again (λ c. search needs) (λ c. search needs) loop-again-2 returns returns-2)

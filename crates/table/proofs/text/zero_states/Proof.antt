@@ -1,7 +1,8 @@
+-- Invariant: the first i numbers are 0, the others as they were. Measure: numbers left.
 use borrow.Author.Fill.{fill-more}
 use mathlib.Core.Path.{_≡_, _∙_}
 use mathlib.Core.List.{_++_}
-use Prim.Native.Nat.{_+_, _-_, _≤_}
+use Prim.Native.Nat.{_-_, _≤_}
 use native.Mathlib.Omega.{arith}
 use lib.ListN.{length, drop, length-set, replicate}
 use borrow.Author.Needs.{needs}
@@ -14,29 +15,11 @@ Inv-loop xs₀ n i₀ xs i = (xs ≡ replicate i 0 ++ drop i xs₀) × (i ≤ n)
 abbrev μ-loop : tie.MeasureT-loop
 μ-loop xs₀ n i₀ xs i = n - i
 
-loop-holds : tie.Need-loop-holds Inv-loop μ-loop
-loop-holds c = search needs
-
-mul-xs : tie.Need-mul-xs Inv-loop μ-loop
-mul-xs c = search needs
-
-slice-write-xs : tie.Need-slice-write-xs Inv-loop μ-loop
-slice-write-xs c = search needs
-
-add-i : tie.Need-add-i Inv-loop μ-loop
-add-i c = search needs
-
-loop-less : tie.Need-loop-less Inv-loop μ-loop
-loop-less c = search needs
-
 loop-again : tie.Need-loop-again Inv-loop μ-loop
 loop-again c =
     let l = c .before .loop in
     let a = c .before .before .args in
     (rw (l .inv .0) (fill-more (l .i) 0 (a .xs .now) (omega arith)), omega arith, length-set (l .xs) (l .i) 0 ∙ l .inv .2)
-
-same-length : tie.Need-same-length Inv-loop μ-loop
-same-length c = search needs
 
 returns : tie.Need-returns Inv-loop μ-loop
 returns c =
@@ -48,14 +31,5 @@ returns c =
 pub zero-states-spec : {M : Type 1} → statement M
 zero-states-spec =
     tie.close
-    (tie.spec
-    Inv-loop
-    μ-loop
-    loop-holds
-    mul-xs
-    slice-write-xs
-    add-i
-    loop-less
-    loop-again
-    same-length
-    returns)
+    (tie.spec Inv-loop μ-loop (λ c. search needs) (λ c. search needs) (λ c. search needs) (λ c. search needs)
+    (λ c. search needs) loop-again (λ c. search needs) returns)

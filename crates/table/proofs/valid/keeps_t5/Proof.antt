@@ -9,9 +9,6 @@ returns c = search tests
 returns-2 : tie.Need-returns-2
 returns-2 c = search tests
 
-end-kind-requires : tie.Need-end-kind-requires
-end-kind-requires c κs = search needs
-
 returns-3 : tie.Need-returns-3
 returns-3 c = rw (← c .before .end-kind .ensures) (search tests)
 
@@ -23,4 +20,4 @@ returns-5 c = rw (← c .before .before .end-kind .ensures) (search tests)
 
 pub keeps-t5-spec : {M : Type 1} → statement M
 keeps-t5-spec =
-    tie.close (tie.spec returns returns-2 end-kind-requires returns-3 returns-4 returns-5)
+    tie.close (tie.spec returns returns-2 (λ c κs. search needs) returns-3 returns-4 returns-5)

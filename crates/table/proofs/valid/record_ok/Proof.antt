@@ -14,9 +14,6 @@ returns-2 : tie.Need-returns-2
 unfolding recordOk
 returns-2 c = search tests
 
-cast-if3 : tie.Need-cast-if3
-cast-if3 c = search needs
-
 returns-3 : tie.Need-returns-3
 unfolding recordOk
 returns-3 c = search tests
@@ -33,9 +30,6 @@ returns-6 : tie.Need-returns-6
 unfolding recordOk
 returns-6 c = search tests
 
-is-padded-requires : tie.Need-is-padded-requires
-is-padded-requires c κs = search needs
-
 returns-7 : tie.Need-returns-7
 unfolding recordOk
 returns-7 c = rw (sym (c .before .is-padded .ensures) ∙ not-true _ (c .if7 .taken)) (search tests)
@@ -51,15 +45,5 @@ returns-9 c = rw (sym (c .before .before .before .is-padded .ensures) ∙ not-fa
 pub record-ok-spec : {M : Type 1} → statement M
 record-ok-spec =
     tie.close
-    (tie.spec
-    returns
-    returns-2
-    cast-if3
-    returns-3
-    returns-4
-    returns-5
-    returns-6
-    is-padded-requires
-    returns-7
-    returns-8
-    returns-9)
+    (tie.spec returns (λ c. search needs) returns-2 (λ c. search needs) returns-3 returns-4 returns-5 returns-6
+    (λ c κs. search needs) returns-7 returns-8 returns-9)

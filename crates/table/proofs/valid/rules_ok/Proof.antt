@@ -1,68 +1,74 @@
 -- The rules in the order of the code (line-formed).
-use Rattle.table.proofs.LineLaws.{ok-rank, line-unformed, line-formed, t5-two, t5-other}
+use Rattle.table.proofs.LineLaws.{line-unformed, line-formed, t5-rank-4, t5-rank-other}
+use Rattle.table.proofs.StoredLine.{ok-rank}
 use borrow.Author.Tests.{not-true, not-false}
 use Rattle.table.specs.States.{stepAt}
-use Rattle.table.specs.Entry.{mk}
+use Rattle.table.specs.Stored.{mk}
 use mathlib.Core.Path.{sym, _∙_}
 use borrow.Author.Needs.{needs}
 use Rattle.table.proofs.valid.rules_ok.Statement.{statement}
 use Rattle.table.proofs.valid.rules_ok.Tie as tie
 
-entry-ok-requires : tie.Need-entry-ok-requires
-entry-ok-requires c κs = search needs
+abbrev entry : tie.Then3 → tie.Start
+entry c = c .before .before .before .before .before .before .before
+
+abbrev else1 : tie.Else3 → tie.Else1
+else1 c = c .before .before .before .before
 
 returns : tie.Need-returns
 returns c =
     let a = c .before .before .before .args in
-    sym (line-unformed (stepAt (a .steps .now)) (a .rec) (mk (a .bits) (a .info)) (sym (c .before .entry-ok .ensures) ∙ not-true _ (c .if1 .taken)))
-
-keeps-t6-requires : tie.Need-keeps-t6-requires
-keeps-t6-requires c κs = search needs
+    sym (line-unformed (stepAt (a .steps .now)) (a .rec) (mk (a .bits) (a .info)) (sym (c .before .stored-ok .ensures) ∙ not-true _ (c .if1 .taken)))
 
 returns-2 : tie.Need-returns-2
 returns-2 c =
     let a = c .before .before .before .before .before .args in
-    let ok = sym (c .before .before .before .entry-ok .ensures) ∙ not-false _ (c .before .before .if1 .left) in
+    let ok = sym (c .before .before .before .stored-ok .ensures) ∙ not-false _ (c .before .before .if1 .left) in
     rw (line-formed (stepAt (a .steps .now)) (a .rec) (mk (a .bits) (a .info)) ok, sym (c .before .keeps-t6 .ensures) ∙ not-true _ (c .if2 .taken))
 
 keeps-t7-t8-requires : tie.Need-keeps-t7-t8-requires
-keeps-t7-t8-requires c κs = sym (c .before .before .before .entry-ok .ensures) ∙ not-false _ (c .before .before .if1 .left)
+keeps-t7-t8-requires c κs = sym (c .before .before .before .stored-ok .ensures) ∙ not-false _ (c .before .before .if1 .left)
 
 returns-3 : tie.Need-returns-3
 returns-3 c =
-    let a = c .before .before .before .before .before .before .before .args in
-    let ok = sym (c .before .before .before .before .before .entry-ok .ensures) ∙ not-false _ (c .before .before .before .before .if1 .left) in
-    rw (line-formed (stepAt (a .steps .now)) (a .rec) (mk (a .bits) (a .info)) ok, sym (c .before .before .before .keeps-t6 .ensures) ∙ not-false _ (c .before .before .if2 .left), sym (c .before .keeps-t7-t8 .ensures) ∙ not-true _ (c .if3 .taken))
+    let a = entry c .args in
+    let ok = sym (c .before .before .before .before .before .stored-ok .ensures) ∙ not-false _ (c .before .before .before .before .if1 .left) in
+    rw (
+      line-formed (stepAt (a .steps .now)) (a .rec) (mk (a .bits) (a .info)) ok,
+      sym (c .before .before .before .keeps-t6 .ensures)
+          ∙ not-false _ (c .before .before .if2 .left),
+      sym (c .before .keeps-t7-t8 .ensures) ∙ not-true _ (c .if3 .taken),
+    )
 
 returns-4 : tie.Need-returns-4
 returns-4 c =
-    let a = c .before .before .before .before .before .before .before .before .args in
-    let ok = sym (c .before .before .before .before .before .before .entry-ok .ensures) ∙ not-false _ (c .before .before .before .before .before .if1 .left) in
-    rw (line-formed (stepAt (a .steps .now)) (a .rec) (mk (a .bits) (a .info)) ok, sym (c .before .before .before .before .keeps-t6 .ensures) ∙ not-false _ (c .before .before .before .if2 .left), sym (c .before .before .keeps-t7-t8 .ensures) ∙ not-false _ (c .before .if3 .left), t5-two (mk (a .bits) (a .info)) (stepAt (a .steps .now)) (a .rec .min) (a .rec .max) (c .if4 .taken))
-
-add-t9 : tie.Need-add-t9
-add-t9 c = search needs
-
-keeps-t5-requires : tie.Need-keeps-t5-requires
-keeps-t5-requires c κs = search needs
+    let a = else1 (c .before) .before .before .before .args in
+    let ok = sym (else1 (c .before) .before .stored-ok .ensures) ∙ not-false _ (else1 (c .before) .if1 .left) in
+    rw (
+      line-formed (stepAt (a .steps .now)) (a .rec) (mk (a .bits) (a .info)) ok,
+      sym (c .before .before .before .before .keeps-t6 .ensures)
+          ∙ not-false _ (c .before .before .before .if2 .left),
+      sym (c .before .before .keeps-t7-t8 .ensures)
+          ∙ not-false _ (c .before .if3 .left),
+      t5-rank-4 (mk (a .bits) (a .info)) (stepAt (a .steps .now)) (a .rec .min) (a .rec .max) (c .if4 .taken),
+    )
 
 returns-5 : tie.Need-returns-5
 returns-5 c =
-    let a = c .before .before .before .before .before .before .before .before .before .args in
-    let ok = sym (c .before .before .before .before .before .before .before .entry-ok .ensures) ∙ not-false _ (c .before .before .before .before .before .before .if1 .left) in
-    c .keeps-t5 .ensures ∙ sym (t5-other (mk (a .bits) (a .info)) (stepAt (a .steps .now)) (a .rec .min) (a .rec .max) (ok-rank (mk (a .bits) (a .info)) ok) (c .before .if4 .left)) ∙ rw (line-formed (stepAt (a .steps .now)) (a .rec) (mk (a .bits) (a .info)) ok, sym (c .before .before .before .before .before .keeps-t6 .ensures) ∙ not-false _ (c .before .before .before .before .if2 .left), sym (c .before .before .before .keeps-t7-t8 .ensures) ∙ not-false _ (c .before .before .if3 .left))
+    let a = else1 (c .before .before) .before .before .before .args in
+    let ok = sym (else1 (c .before .before) .before .stored-ok .ensures) ∙ not-false _ (else1 (c .before .before) .if1 .left) in
+    c .keeps-t5 .ensures
+    ∙ sym (t5-rank-other (mk (a .bits) (a .info)) (stepAt (a .steps .now)) (a .rec .min) (a .rec .max)
+    (ok-rank (mk (a .bits) (a .info)) ok) (c .before .if4 .left))
+    ∙ rw (
+      line-formed (stepAt (a .steps .now)) (a .rec) (mk (a .bits) (a .info)) ok,
+      sym (c .before .before .before .before .before .keeps-t6 .ensures)
+          ∙ not-false _ (c .before .before .before .before .if2 .left),
+      sym (c .before .before .before .keeps-t7-t8 .ensures) ∙ not-false _ (c .before .before .if3 .left),
+    )
 
 pub rules-ok-spec : {M : Type 1} → statement M
 rules-ok-spec =
     tie.close
-    (tie.spec
-    entry-ok-requires
-    returns
-    keeps-t6-requires
-    returns-2
-    keeps-t7-t8-requires
-    returns-3
-    returns-4
-    add-t9
-    keeps-t5-requires
-    returns-5)
+    (tie.spec (λ c κs. search needs) returns (λ c κs. search needs) returns-2 keeps-t7-t8-requires returns-3
+    returns-4 (λ c. search needs) (λ c κs. search needs) returns-5)

@@ -1,7 +1,7 @@
--- As for one byte; the first of the two leads on (end-here).
-use Rattle.table.proofs.Cuts.{end-here}
+-- As for one byte; the first of the two leads on (endKind-unpacked).
+use Rattle.table.proofs.Cuts.{endKind-unpacked}
 use Rattle.table.specs.declared.states.Step.the-variants.{Leads}
-use Rattle.table.specs.Entry.{padded}
+use Rattle.table.specs.Stored.{padded}
 use Rattle.table.specs.States.{stepAt}
 use Rattle.table.specs.Rules.{t5Kind}
 use Rattle.lists.proofs.Laws.{clash}
@@ -12,6 +12,9 @@ use Prim.Native.Nat.{_%_}
 use borrow.Author.Needs.{needs}
 use Rattle.table.proofs.valid.two_bytes_ok.Statement.{statement}
 use Rattle.table.proofs.valid.two_bytes_ok.Tie as tie
+
+abbrev else4 : tie.After-is-assigned → tie.Else4
+else4 c = c .before .before .before .before .before .before
 
 returns : tie.Need-returns
 returns c = λ e. absurd (clash e refl)
@@ -25,30 +28,6 @@ returns-3 c = λ e. absurd (clash e refl)
 returns-4 : tie.Need-returns-4
 returns-4 c = λ e. absurd (clash e refl)
 
-cast-step-at : tie.Need-cast-step-at
-cast-step-at c = search needs
-
-step-at-requires : tie.Need-step-at-requires
-step-at-requires c κs = search needs
-
-enum-told : tie.Need-enum-told
-enum-told c = search needs
-
-enum-told-2 : tie.Need-enum-told-2
-enum-told-2 c = search needs
-
-enum-known-row : tie.Need-enum-known-row
-enum-known-row c = search needs
-
-mul-last-kind : tie.Need-mul-last-kind
-mul-last-kind c = search needs
-
-last-kind-requires : tie.Need-last-kind-requires
-last-kind-requires c κs = search needs
-
-is-assigned-requires : tie.Need-is-assigned-requires
-is-assigned-requires c κs = search needs
-
 returns-5 : tie.Need-returns-5
 returns-5 c = λ e. absurd (clash e refl)
 
@@ -58,26 +37,24 @@ returns-6 c = λ e. absurd (clash e refl)
 returns-7 : tie.Need-returns-7
 unfolding padded
 returns-7 c =
-    λ e. let a = c .before .before .before .before .before .before .before .before .before .before .before .args in
-    let m = end-here (stepAt (a .steps .now)) 0 2 (a .bits) (Leads (c .before .before .before .row .given .0 .0)) (omega arith) (sym (c .before .before .before .before .before .step-at .ensures) ∙ c .before .before .before .row .given .1) in
-    record { its-form = eq-eqb (a .bits % 65536) 0 (omega arith); at-least = omega arith; at-most = omega arith; its-first = λ z. absurd (c .before .before .before .before .before .before .if4 .left z); its-end = λ point p. ap (t5Kind point) (m ∙ sym (c .before .last-kind .ensures)) ∙ sym (c .is-assigned .ensures point p) ∙ e }
+    λ e. let a = else4 c .before .before .before .before .before .args in
+    let m = endKind-unpacked (stepAt (a .steps .now)) 0 2 (a .bits) (Leads (c .before .before .before .row .given .0 .0))
+    (omega arith) (sym (c .before .before .before .before .before .step-at .ensures)
+    ∙ c .before .before .before .row .given .1) in
+    record {
+      its-form = eq-eqb (a .bits % 65536) 0
+          (omega arith);
+      at-least = omega arith;
+      at-most = omega arith;
+      its-first = λ z. absurd
+          (else4 c .if4 .left z);
+      its-end = λ point p. ap (t5Kind point) (m ∙ sym (c .before .last-kind .ensures))
+          ∙ sym (c .is-assigned .ensures point p) ∙ e;
+    }
 
 pub two-bytes-ok-spec : {M : Type 1} → statement M
 two-bytes-ok-spec =
     tie.close
-    (tie.spec
-    returns
-    returns-2
-    returns-3
-    returns-4
-    cast-step-at
-    step-at-requires
-    enum-told
-    enum-told-2
-    enum-known-row
-    mul-last-kind
-    last-kind-requires
-    is-assigned-requires
-    returns-5
-    returns-6
-    returns-7)
+    (tie.spec returns returns-2 returns-3 returns-4 (λ c. search needs) (λ c κs. search needs)
+    (λ c. search needs) (λ c. search needs) (λ c. search needs) (λ c. search needs) (λ c κs. search needs)
+    (λ c κs. search needs) returns-5 returns-6 returns-7)

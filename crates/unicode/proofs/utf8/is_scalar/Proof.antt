@@ -1,4 +1,4 @@
--- `is_scalar` meets its contract: each test is the definition's.
+-- Each test is the definition's.
 use Rattle.lists.proofs.Laws.{tests}
 use Rattle.unicode.specs.Utf8.{isScalar}
 use Rattle.unicode.proofs.utf8.is_scalar.Statement.{statement}

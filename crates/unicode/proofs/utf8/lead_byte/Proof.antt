@@ -1,4 +1,4 @@
--- `lead_byte` meets its contract: what stands above the groups does not reach into the mark.
+-- What stands above the groups does not reach into the mark.
 use native.Mathlib.Omega.{arith}
 use Rattle.unicode.proofs.Groups.{lead-ok}
 use Rattle.unicode.proofs.utf8.lead_byte.Statement.{statement}

@@ -1,4 +1,4 @@
--- `low_six` meets its contract, by the law of a mask.
+-- By the law of a mask.
 use lib.Bits.{and-mask}
 use Rattle.unicode.proofs.utf8.low_six.Statement.{statement}
 use Rattle.unicode.proofs.utf8.low_six.Tie as tie

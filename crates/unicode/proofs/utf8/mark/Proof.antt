@@ -1,21 +1,12 @@
--- `mark` meets its contract: the last arm is three trail bytes.
+-- The last arm is three trail bytes.
 use mathlib.Core.Path.{_≡_}
 use native.Mathlib.Omega.{arith}
 use borrow.Author.Needs.{needs}
 use Rattle.unicode.proofs.utf8.mark.Statement.{statement}
 use Rattle.unicode.proofs.utf8.mark.Tie as tie
 
-returns : tie.Need-returns
-returns c = search needs
-
-returns-2 : tie.Need-returns-2
-returns-2 c = search needs
-
-returns-3 : tie.Need-returns-3
-returns-3 c = search needs
-
 returns-4 : tie.Need-returns-4
 returns-4 c = let e : c .before .args .k ≡ 3 = omega arith in rw e
 
 pub mark-spec : {M : Type 1} → statement M
-mark-spec = tie.close (tie.spec returns returns-2 returns-3 returns-4)
+mark-spec = tie.close (tie.spec (λ c. search needs) (λ c. search needs) (λ c. search needs) returns-4)

@@ -1,4 +1,4 @@
--- `trail_at` meets its contract, by what the tests said of the byte at the place.
+-- By what the tests said of the byte at the place.
 use mathlib.Core.Path.{sym}
 use native.Mathlib.Omega.{arith}
 use borrow.Author.Needs.{needs}
@@ -12,30 +12,15 @@ returns c =
     let a = c .before .before .args in
     sym (at-end (a .lo) (a .hi) (a .v) (a .i) (now (a .s)) (omega arith))
 
-shared-slice-read-x : tie.Need-shared-slice-read-x
-shared-slice-read-x c = search needs
-
-add-t12 : tie.Need-add-t12
-add-t12 c = search needs
-
 returns-2 : tie.Need-returns-2
 returns-2 c =
     let a = c .before .before .before .before .args in
     sym (at-low (a .lo) (a .hi) (a .v) (a .i) (now (a .s)) (omega arith) (omega arith))
 
-add-t14 : tie.Need-add-t14
-add-t14 c = search needs
-
 returns-3 : tie.Need-returns-3
 returns-3 c =
     let a = c .before .before .before .before .before .args in
     sym (at-high (a .lo) (a .hi) (a .v) (a .i) (now (a .s)) (omega arith) (omega arith) (omega arith))
-
-put-six-requires : tie.Need-put-six-requires
-put-six-requires c κs = search needs
-
-add-t7 : tie.Need-add-t7
-add-t7 c = search needs
 
 returns-4 : tie.Need-returns-4
 returns-4 c =
@@ -45,13 +30,5 @@ returns-4 c =
 pub trail-at-spec : {M : Type 1} → statement M
 trail-at-spec =
     tie.close
-    (tie.spec
-    returns
-    shared-slice-read-x
-    add-t12
-    returns-2
-    add-t14
-    returns-3
-    put-six-requires
-    add-t7
-    returns-4)
+    (tie.spec returns (λ c. search needs) (λ c. search needs) returns-2 (λ c. search needs) returns-3
+    (λ c κs. search needs) (λ c. search needs) returns-4)

@@ -1,15 +1,9 @@
--- `trail_behind` meets its contract, by the law of one more trail byte.
+-- By the law of one more trail byte.
 use borrow.Author.Needs.{needs}
 use denote.Ref.{now}
 use Rattle.unicode.proofs.Trails.{one-more}
 use Rattle.unicode.proofs.utf8.trail_behind.Statement.{statement}
 use Rattle.unicode.proofs.utf8.trail_behind.Tie as tie
-
-enum-known-read : tie.Need-enum-known-read
-enum-known-read c = search needs
-
-enum-known-read-2 : tie.Need-enum-known-read-2
-enum-known-read-2 c = search needs
 
 trail-at-requires : tie.Need-trail-at-requires
 trail-at-requires c κs = c .before .before .before .before .pre _ _ (c .before .read2 .given .1)
@@ -24,4 +18,4 @@ returns-2 c =
 
 pub trail-behind-spec : {M : Type 1} → statement M
 trail-behind-spec =
-    tie.close (tie.spec enum-known-read enum-known-read-2 trail-at-requires returns returns-2)
+    tie.close (tie.spec (λ c. search needs) (λ c. search needs) trail-at-requires returns returns-2)

@@ -1,4 +1,4 @@
--- `trail_count` meets its contract: each test is the definition's.
+-- Each test is the definition's.
 use Rattle.lists.proofs.Laws.{tests}
 use Rattle.unicode.proofs.utf8.trail_count.Statement.{statement}
 use Rattle.unicode.proofs.utf8.trail_count.Tie as tie

@@ -1,0 +1,2 @@
+-- What only loops and proofs need; nothing that is promised speaks of it.
+pub mod Inner

@@ -1,0 +1,3 @@
+-- What only loops and proofs need; nothing that is promised speaks of it.
+pub mod Inner
+pub mod Laws

@@ -1,0 +1,36 @@
+-- What only inner functions and the laws of a run speak of: what the laws ask of a step and of a Unicode side, and what
+-- is sent as the code holds it.
+use Prim.Native.Nat.{ℕ, _<_, _≤_}
+use mathlib.Core.Path.{_≡_}
+use mathlib.Core.List.{List, _++_}
+use lib.ListN.{length}
+use Rattle.unicode.specs.Utf8.{Scalar}
+use Rattle.unicode.specs.declared.utf8.Sequence.the-variants as sequence
+use Rattle.table.specs.Codes.{unpacked}
+use Rattle.convert.specs.Run.{Gives, give, stop, SequenceStep}
+use Rattle.convert.specs.Step.{Side}
+use Rattle.convert.specs.declared.Sent.{Sent}
+use Rattle.convert.specs.declared.Sent.the-variants as sent
+
+-- what the laws of a run ask of its step
+pub record Sound (step : SequenceStep) : Type 0 where
+  pub some : (st : ℕ) (s bs : List ℕ) (n next : ℕ) → step st s ≡ give bs n next → 0 < n
+  pub within : (st : ℕ) (s bs : List ℕ) (n next : ℕ) → step st s ≡ give bs n next → n ≤ length s
+  pub grows : (st : ℕ) (s t bs : List ℕ) (n next : ℕ) → step st s ≡ give bs n next
+      → step st (s ++ t) ≡ give bs n next
+
+-- what the conversions need of a Unicode side
+pub record LawfulSide (u : Side) : Type 0 where
+  pub some : (c : ℕ) → 0 < length (u .encode c)
+  pub put-reads : (c : ℕ) (rest : List ℕ) → Scalar c
+      → u .decode (u .encode c ++ rest) ≡ sequence.Scalar c (length (u .encode c))
+  pub scalar : (s : List ℕ) (c n : ℕ) → u .decode s ≡ sequence.Scalar c n → Scalar c
+  pub positive : (s : List ℕ) (c n : ℕ) → u .decode s ≡ sequence.Scalar c n → 0 < n
+  pub within : (s : List ℕ) (c n : ℕ) → u .decode s ≡ sequence.Scalar c n → n ≤ length s
+  pub grows : (s t : List ℕ) (c n : ℕ) → u .decode s ≡ sequence.Scalar c n
+      → u .decode (s ++ t) ≡ sequence.Scalar c n
+
+-- what is sent, as bytes: the code's bits hold its bytes, the first on top
+abbrev pub sentOf : Sent → Gives
+sentOf (sent.Code bits len n) = give (unpacked len bits) n 0
+sentOf (sent.Stopped w) = stop w

@@ -1,0 +1,2 @@
+-- What only loops and proofs need.
+pub mod PagedCalls

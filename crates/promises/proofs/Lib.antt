@@ -1,0 +1,10 @@
+pub mod Functions
+pub mod LoadCalls
+pub mod Refusals
+pub mod ConversionCalls
+pub mod AuditCalls
+pub mod FrameCalls
+pub mod PageCalls
+pub mod EndCalls
+pub mod ProgramCalls
+pub mod Promises

@@ -1,0 +1,143 @@
+-- Calls of the library's public functions. Each is a call of which the function's own contract holds, so what is said
+-- of all calls is said of every call that can be made. A word such as `textOf` is an argument, a result, or a slice
+-- at entry or exit.
+use Prim.Native.Nat.{ℕ, _≤_}
+use mathlib.Core.Path.{_≡_}
+use mathlib.Core.Bool.{Bool}
+use mathlib.Core.List.{List}
+use lib.ListN.{length, take}
+use borrow.Fn.Kinds.{Out}
+use denote.Ref.{now}
+use Rattle.table.specs.Limits.{limits}
+use Rattle.table.specs.Meaning.{Table}
+use Rattle.table.specs.Grammar.{TableText}
+use Rattle.table.specs.Slices.{Slices, slices, Lent}
+use Rattle.table.specs.declared.load.Answer.the-variants.{Accepted}
+use Rattle.table.specs.declared.states.Code.{Code}
+use Rattle.table.specs.declared.valid.Record.{Record}
+use Rattle.convert.specs.declared.Settings.{Settings}
+use Rattle.table.proofs.load.load.Reads as load
+use Rattle.table.proofs.load.load.Kinds as of-load
+use Rattle.table.proofs.valid.memory_valid.Reads as memory-valid
+use Rattle.table.proofs.valid.memory_valid.Kinds as of-memory-valid
+use Rattle.table.proofs.lookup.find_code.Reads as find-code
+use Rattle.table.proofs.lookup.find_code.Kinds as of-find-code
+use Rattle.table.proofs.lookup.find_point.Reads as find-point
+use Rattle.table.proofs.lookup.find_point.Kinds as of-find-point
+use Rattle.convert.proofs.to_utf8.Reads as to-utf8
+use Rattle.convert.proofs.to_utf8.Kinds as of-to-utf8
+use Rattle.convert.proofs.from_utf8.Reads as from-utf8
+use Rattle.audit.proofs.audit.Reads as audit
+use Rattle.audit.proofs.audit.Kinds as of-audit
+use Rattle.promises.specs.Called.{Called}
+
+-- ## `load`: a text into four lent slices
+
+abbrev pub LoadCall : Type 1
+LoadCall = Called 5 of-load.ps of-load.r load.Post
+
+abbrev pub textOf : LoadCall → List ℕ
+textOf c = now (c .args .0)
+
+-- the lent slices when it is called, and when it returns
+abbrev pub lentTo : LoadCall → Slices
+lentTo c =
+    slices (now (c .args .1 .0)) (now (c .args .1 .1 .0)) (now (c .args .1 .1 .1 .0)) (now (c .args .1 .1 .1 .1 .0))
+
+abbrev pub leftAfter : LoadCall → Slices
+leftAfter c =
+    slices (now (c .exit .1 .0)) (now (c .exit .1 .1 .0)) (now (c .exit .1 .1 .1 .0)) (now (c .exit .1 .1 .1 .1 .0))
+
+-- it may be loaded: the slices are long enough, and the text is no longer than allowed
+pub record MayLoad (c : LoadCall) : Type 0 where
+  pub long-enough : Lent limits (lentTo c)
+  pub short-enough : length (textOf c) ≤ limits .text
+
+-- it was accepted, and its text writes the table t
+pub record AcceptedAs (c : LoadCall) (t : Table) : Type 0 where
+  pub accepted : c .result .answer ≡ Accepted
+  pub of-grammar : TableText (textOf c) t
+
+-- ## `memory_valid`: the test behind 60
+
+abbrev pub ValidCall : Type 1
+ValidCall = Called 4 of-memory-valid.ps of-memory-valid.r memory-valid.Post
+
+abbrev pub recordTested : ValidCall → Record
+recordTested c = c .args .0
+
+abbrev pub slicesTested : ValidCall → Slices
+slicesTested c =
+    slices (now (c .args .1 .0)) (now (c .args .1 .1 .0)) (now (c .args .1 .1 .1 .0)) (now (c .args .1 .1 .1 .1 .0))
+
+-- ## `find_code`, `find_point`: look-up
+
+abbrev pub CodeCall : Type 1
+CodeCall = Called 2 of-find-code.ps of-find-code.r find-code.Post
+
+abbrev pub PointCall : Type 1
+PointCall = Called 3 of-find-point.ps of-find-point.r find-point.Post
+
+-- ## `to_utf8`, `from_utf8`: the two conversions, of one signature
+
+abbrev pub ConversionCall : Out 6 of-to-utf8.ps of-to-utf8.r → Type 1
+ConversionCall Post = Called 6 of-to-utf8.ps of-to-utf8.r Post
+
+abbrev pub ToCall : Type 1
+ToCall = ConversionCall to-utf8.Post
+
+abbrev pub FromCall : Type 1
+FromCall = ConversionCall from-utf8.Post
+
+module _ {Post : Out 6 of-to-utf8.ps of-to-utf8.r} where
+  abbrev pub recordGiven : ConversionCall Post → Record
+  recordGiven c = c .args .0
+
+  abbrev pub slicesGiven : ConversionCall Post → Slices
+  slicesGiven c =
+      slices (now (c .args .1 .0)) (now (c .args .1 .1 .0)) (now (c .args .1 .1 .1 .0)) (now (c .args .1 .1 .1 .1 .0))
+
+  abbrev pub inputOf : ConversionCall Post → List ℕ
+  inputOf c = now (c .args .1 .1 .1 .1 .1 .0)
+
+  -- the output slice when it is called, and when it returns
+  abbrev pub outputLent : ConversionCall Post → List ℕ
+  outputLent c = now (c .args .1 .1 .1 .1 .1 .1 .0)
+
+  abbrev pub outputAfter : ConversionCall Post → List ℕ
+  outputAfter c = now (c .exit .1 .1 .1 .1 .1 .1 .0)
+
+  abbrev pub settingsOf : ConversionCall Post → Settings
+  settingsOf c = c .args .1 .1 .1 .1 .1 .1 .1 .0
+
+  -- the bytes that it wrote
+  abbrev pub writtenBy : ConversionCall Post → List ℕ
+  writtenBy c = take (c .result .written) (outputAfter c)
+
+-- ## `audit`: codes that do not round-trip
+
+abbrev pub AuditFunctionCall : Type 1
+AuditFunctionCall = Called 5 of-audit.ps of-audit.r audit.Post
+
+abbrev pub recordAudited : AuditFunctionCall → Record
+recordAudited c = c .args .0
+
+abbrev pub slicesAudited : AuditFunctionCall → Slices
+slicesAudited c =
+    slices (now (c .args .1 .0)) (now (c .args .1 .1 .0)) (now (c .args .1 .1 .1 .0)) (now (c .args .1 .1 .1 .1 .0))
+
+abbrev pub fallbackOf : AuditFunctionCall → Bool
+fallbackOf c = c .args .1 .1 .1 .1 .1 .0
+
+abbrev pub positionOf : AuditFunctionCall → Code
+positionOf c = c .args .1 .1 .1 .1 .1 .1 .0
+
+abbrev pub allowanceOf : AuditFunctionCall → ℕ
+allowanceOf c = c .args .1 .1 .1 .1 .1 .1 .1 .0
+
+-- the space for entries when it is called, and when it returns
+abbrev pub spaceLent : AuditFunctionCall → List ℕ
+spaceLent c = now (c .args .1 .1 .1 .1 .1 .1 .1 .1 .0)
+
+abbrev pub spaceAfterwards : AuditFunctionCall → List ℕ
+spaceAfterwards c = now (c .exit .1 .1 .1 .1 .1 .1 .1 .1 .0)

@@ -1,0 +1,6 @@
+pub mod Called
+pub mod Functions
+pub mod Calls
+pub mod Words
+pub mod Program
+pub mod Promises

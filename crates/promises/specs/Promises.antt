@@ -1,0 +1,214 @@
+-- EVERYTHING THAT IS PROMISED, as one record over calls of the public functions: the three demands, clause by clause,
+-- the starred cases, and the program. It is proved whole as `promises` in proofs/Promises.antt; docs/PROMISES.md goes
+-- through its fields.
+use Prim.Native.Nat.{ℕ, _+_, _*_, _<_, _≤_}
+use mathlib.Core.Path.{_≡_}
+use mathlib.Core.Logic.{_↔_, _⊎_}
+use mathlib.Core.Bool.{Bool, true, false}
+use mathlib.Core.Option.{none, some}
+use mathlib.Core.List.{List, [], _++_, map}
+use lib.ListN.{length, getD}
+use Rattle.lists.specs.Ascii.{ascii}
+use Rattle.lists.specs.Order.{In}
+use Rattle.unicode.specs.Utf8.{Scalar, decodeOne, encodeOf}
+use Rattle.unicode.specs.WellFormed.{StartsWith, Begins}
+use Rattle.unicode.specs.declared.utf8.Sequence.the-variants as sequence
+use Rattle.unicode.specs.declared.utf8.Stop.the-variants as stopped
+use Rattle.table.specs.Limits.{Limits, limits}
+use Rattle.table.specs.States.{isCode, endKind}
+use Rattle.table.specs.Codes.{AllByte}
+use Rattle.table.specs.Meaning.{Line, Table, stepsOf, reader}
+use Rattle.table.specs.Rules.{Keeps}
+use Rattle.table.specs.Grammar.{TableText, N10, N12, N14, N15, Keyed}
+use Rattle.table.specs.Memory.{Form, Proper}
+use Rattle.table.specs.Forms.{FormOf, SameTable, SameMemory}
+use Rattle.table.specs.Valid.{valid}
+use Rattle.table.specs.Numbers.{cond, refusalNumber, answerNumber}
+use Rattle.table.specs.Load.{Reading, zeroRecord, loadedBy, given, givenNumber, leftIn}
+use Rattle.table.specs.FirstLine.{conditionsAt}
+use Rattle.table.specs.TableK.{kText}
+use Rattle.table.specs.declared.load.Answer.the-variants.{Accepted, Refused}
+use Rattle.table.specs.declared.load.Refusal.{Refusal}
+use Rattle.table.specs.declared.load.Refusal.the-variants as refusal
+use Rattle.convert.specs.Run.{endedWith}
+use Rattle.convert.specs.Step.{utf8, code, writes, strict}
+use Rattle.convert.specs.Convert.{toRun, fromRun, toTested, fromTested}
+use Rattle.convert.specs.Claims.{WellFormedText, RoundTripCode, frameOf, RoundTrips}
+use Rattle.convert.specs.declared.RunEnd.the-variants.{AllRead, OutputFull, BadTable}
+use Rattle.audit.specs.Audit.{causeOf, completeCodes, entryNumber, auditTested, refused}
+use Rattle.audit.specs.Demand.{InTurn, Claims}
+use Rattle.audit.specs.Cases.{Starred}
+use Rattle.audit.specs.declared.Ending.the-variants as ending
+use Rattle.frames.specs.Output.{outputOf, programOutput}
+use Rattle.promises.specs.Functions.{AskNothing, MeetTheirs}
+use Rattle.promises.specs.Calls.{LoadCall, textOf, lentTo, leftAfter, MayLoad, AcceptedAs, ValidCall}
+use Rattle.promises.specs.Calls.{recordTested, slicesTested}
+use Rattle.promises.specs.Calls.{CodeCall, PointCall, ToCall, FromCall, recordGiven, slicesGiven, inputOf}
+use Rattle.promises.specs.Calls.{outputLent, outputAfter}
+use Rattle.promises.specs.Calls.{settingsOf, writtenBy, AuditFunctionCall, recordAudited, slicesAudited}
+use Rattle.promises.specs.Calls.{fallbackOf, positionOf}
+use Rattle.promises.specs.Calls.{allowanceOf, spaceLent, spaceAfterwards}
+use Rattle.promises.specs.Words.{RefusedFor, AllZeroed, SameBeyond, Words, AnswersBy, OnLoaded, AuditsBy}
+use Rattle.promises.specs.Words.{callOf, FindsCode, FindsPoint}
+use Rattle.promises.specs.Program.{Begun, Course, written, Reads}
+
+-- DEMAND 1: any table text, any table memory, any bytes get an answer; what is handed back and left in lent memory is
+-- fixed
+pub record Demand1 : Type 2 where
+  -- the functions that users call ask nothing of their callers, and each meets its contract
+  pub ask-nothing : AskNothing
+  pub meet-theirs : (M : Type 1) → MeetTheirs M
+  -- `load`: answer, number and the four slices, whatever the text and the slices
+  pub load-answers : (c : LoadCall)
+      → let g = given limits (textOf c) (lentTo c) in
+      (c .result ≡ loadedBy g) × (answerNumber (c .result .answer) ≡ givenNumber g)
+      × (leftAfter c ≡ leftIn limits g (lentTo c))
+  -- a refusal is given exactly for its reason: 1, then 2, both with line 0; else the first line at which a condition
+  -- holds, with the lowest number that holds there; 27 with the count of lines plus 1
+  pub load-refuses : (c : LoadCall) (x : Refusal) (k : ℕ)
+      → ((c .result .answer ≡ Refused x) × (c .result .line ≡ k)) ↔ RefusedFor c x k
+  -- and hands back a record of zeros; 1 and 2 leave the memory as it was, the others zero what is needed of it
+  pub refused-record : (c : LoadCall) (x : Refusal) → c .result .answer ≡ Refused x → c .result .table ≡ zeroRecord
+  pub refused-early : (c : LoadCall) (x : Refusal) → c .result .answer ≡ Refused x → refusalNumber x ≤ 2
+      → leftAfter c ≡ lentTo c
+  pub refused-later : (c : LoadCall) (x : Refusal) → c .result .answer ≡ Refused x → 2 < refusalNumber x
+      → AllZeroed (lentTo c) (leftAfter c)
+  -- numbers past the needed ones are never touched
+  pub beyond-untouched : (c : LoadCall) → SameBeyond (lentTo c) (leftAfter c)
+  -- of the conditions at a line, 10, 12, 14 and 15 hold exactly where the grammar says so, whatever was read before
+  pub ten-exactly : (lim : Limits) (r : Reading) (s : List ℕ)
+      → In (cond refusal.NoForm true) (conditionsAt lim r s) ↔ N10 (r .phase) s
+  pub twelve-exactly : (lim : Limits) (r : Reading) (s : List ℕ)
+      → In (cond refusal.UnfitValue true) (conditionsAt lim r s) ↔ Keyed N12 (r .phase) s
+  pub fourteen-exactly : (lim : Limits) (r : Reading) (s : List ℕ)
+      → In (cond refusal.NotBuilt true) (conditionsAt lim r s) ↔ N14 (r .phase) (length (r .rows)) s
+  pub fifteen-exactly : (lim : Limits) (r : Reading) (s : List ℕ)
+      → In (cond refusal.OutOfRange true) (conditionsAt lim r s)
+      ↔ Keyed (N15 (lim .rows) (length (r .rows))) (r .phase) s
+  -- `memory_valid`: the test behind 60, on any record and memory
+  pub valid-answers : (c : ValidCall) → c .result ≡ valid limits (recordTested c) (slicesTested c)
+  -- `to_utf8`, `from_utf8`: on any record, memory, bytes and output; 60 reads and writes nothing
+  pub to-answers : (c : ToCall)
+      → let room = length (outputLent c) in
+      AnswersBy (toTested utf8 limits (recordGiven c) (slicesGiven c) (settingsOf c) (inputOf c) room) c
+  pub from-answers : (c : FromCall)
+      → let room = length (outputLent c) in
+      AnswersBy (fromTested utf8 limits (recordGiven c) (slicesGiven c) (settingsOf c) (inputOf c) room) c
+  pub to-refuses : (c : ToCall) → valid limits (recordGiven c) (slicesGiven c) ≡ false
+      → AnswersBy (endedWith BadTable 0) c × (outputAfter c ≡ outputLent c)
+  pub from-refuses : (c : FromCall) → valid limits (recordGiven c) (slicesGiven c) ≡ false
+      → AnswersBy (endedWith BadTable 0) c × (outputAfter c ≡ outputLent c)
+  -- `audit`: on any record, memory, position, allowance and space; 60 and 40 leave the space untouched
+  pub audit-answers : (c : AuditFunctionCall)
+      → let space = length (spaceLent c) in
+      let a =
+      auditTested limits (recordAudited c) (slicesAudited c) (fallbackOf c) (positionOf c) (allowanceOf c) space in
+      AuditsBy a c
+  pub audit-refuses : (c : AuditFunctionCall) → (c .result .ending ≡ ending.Looked → ⊥)
+      → AuditsBy (refused (c .result .ending) (positionOf c)) c × (spaceAfterwards c ≡ spaceLent c)
+  -- `find_code`, `find_point`: on any memory nothing, or a stored line; on memory that is valid the table's own line
+  pub code-found : (c : CodeCall) → FindsCode c
+  pub point-found : (c : PointCall) → FindsPoint c
+
+-- DEMAND 2: accepted exactly when the rules are kept; conversion by the table and RFC 3629
+pub record Demand2 : Type 1 where
+  -- a text that may be loaded is accepted exactly when it is of the grammar and its rows and lines keep T1 to T9
+  pub accepted-exactly : (c : LoadCall) → MayLoad c
+      → (c .result .answer ≡ Accepted) ↔ ((t : Table) × TableText (textOf c) t × Keeps limits t)
+  -- an accepted text is of the grammar, and it writes one table
+  pub accepted-means : (c : LoadCall) → c .result .answer ≡ Accepted → (t : Table) × AcceptedAs c t
+  pub one-table : (text : List ℕ) (t u : Table) → TableText text t → TableText text u → t ≡ u
+  -- an accepted text leaves the form of its table; its table has rows of 256 cells and lines of bytes, and keeps the
+  -- rules
+  pub leaves-form : (c : LoadCall) (t : Table) → AcceptedAs c t
+      → Proper t × Keeps limits t × Form limits t (c .result .table) (leftAfter c)
+  pub leaves-valid : (c : LoadCall) → c .result .answer ≡ Accepted
+      → valid limits (c .result .table) (leftAfter c) ≡ true
+  -- one form for one meaning: two accepted texts leave the same record and the same needed numbers exactly when their
+  -- tables are the same
+  pub one-form : (c d : LoadCall) (t u : Table) → AcceptedAs c t → AcceptedAs d u
+      → SameTable t u ↔ SameMemory limits (c .result .table) (d .result .table) (leftAfter c) (leftAfter d)
+  -- the test behind 60 holds exactly where some table that keeps the rules has this record and memory as its form
+  pub valid-exactly : (c : ValidCall) → Words (recordTested c) (slicesTested c)
+      → (c .result ≡ true) ↔ FormOf limits (recordTested c) (slicesTested c)
+  -- on what the load of a text left, the conversions go by that text's own rows and lines
+  pub to-by-text : (l : LoadCall) (t : Table) → AcceptedAs l t → (c : ToCall) → OnLoaded l c
+      → AnswersBy (toRun utf8 t (settingsOf c) (inputOf c) (length (outputLent c))) c
+  pub from-by-text : (l : LoadCall) (t : Table) → AcceptedAs l t → (c : FromCall) → OnLoaded l c
+      → AnswersBy (fromRun utf8 t (settingsOf c) (inputOf c) (length (outputLent c))) c
+  -- UTF-8 is RFC 3629's: what decodes is a well-formed sequence and its value, the encoding of a scalar value decodes,
+  -- 51 is a proper beginning
+  pub utf8-decodes : (s : List ℕ) (c n : ℕ) → (decodeOne s ≡ sequence.Scalar c n) ↔ StartsWith s c n
+  pub utf8-encodes : (c : ℕ) (rest : List ℕ) → Scalar c
+      → decodeOne (encodeOf c ++ rest) ≡ sequence.Scalar c (length (encodeOf c))
+  pub utf8-cut-short : (s : List ℕ) → (decodeOne s ≡ sequence.Stopped stopped.CutShort) ↔ Begins s
+  -- what is written towards UTF-8 is well-formed
+  pub writes-utf8 : (l : LoadCall) (t : Table) → AcceptedAs l t → (c : ToCall) → OnLoaded l c
+      → WellFormedText (writtenBy c)
+  -- no complete code begins another
+  pub prefix-free : (t : Table) (s r : List ℕ) → In s (completeCodes t) → In (s ++ r) (completeCodes t) → r ≡ []
+  -- space for four bytes to each byte of the input is always enough towards UTF-8
+  pub room-enough : (l : LoadCall) (t : Table) → AcceptedAs l t → (c : ToCall) → OnLoaded l c
+      → 4 * length (inputOf c) ≤ length (outputLent c) → c .result .end ≡ OutputFull → ⊥
+  -- more space changes nothing unless the answer was 50
+  pub to-more-space : (l : LoadCall) (t : Table) → AcceptedAs l t → (c d : ToCall) → OnLoaded l c → OnLoaded l d
+      → inputOf d ≡ inputOf c → settingsOf d ≡ settingsOf c → length (outputLent c) ≤ length (outputLent d)
+      → (c .result .end ≡ OutputFull → ⊥) → (d .result ≡ c .result) × (writtenBy d ≡ writtenBy c)
+  pub from-more-space : (l : LoadCall) (t : Table) → AcceptedAs l t → (c d : FromCall) → OnLoaded l c → OnLoaded l d
+      → inputOf d ≡ inputOf c → settingsOf d ≡ settingsOf c → length (outputLent c) ≤ length (outputLent d)
+      → (c .result .end ≡ OutputFull → ⊥) → (d .result ≡ c .result) × (writtenBy d ≡ writtenBy c)
+  -- a frame of codes that round-trip, converted and converted back with space enough for each, is itself
+  pub there-and-back : (l : LoadCall) (t : Table) → AcceptedAs l t → (c : ToCall) (d : FromCall) → OnLoaded l c
+      → OnLoaded l d
+      → settingsOf d ≡ settingsOf c → (codes : List (RoundTripCode t (settingsOf c .fallback)))
+      → inputOf c ≡ frameOf codes
+      → 4 * length (inputOf c) ≤ length (outputLent c) → inputOf d ≡ writtenBy c
+      → length (inputOf c) ≤ length (outputLent d)
+      → writtenBy d ≡ inputOf c
+
+-- DEMAND 3: the audit, over any list of calls
+pub record Demand3 : Type 1 where
+  -- given a load that accepted its text, and any list of audit calls (the empty one too) on what it left, under one
+  -- fallback setting, the first at the beginning and each later one at the position that the one before handed back:
+  -- every clause of demand 3 holds
+  pub all-clauses : (l : LoadCall) (t : Table) → AcceptedAs l t → (fallback : Bool) (cs : List AuditFunctionCall)
+      → InTurn (l .result .table) (leftAfter l) fallback (map callOf cs) → Claims t fallback entryNumber (map callOf cs)
+  -- a code has cause 0 exactly when it round-trips (document 01: comes home), by the text's lines
+  pub cause-zero : (t : Table) (fallback : Bool) (c : List ℕ) → (causeOf t fallback c ≡ 0) ↔ RoundTrips t fallback c
+  -- and that is what the two strict conversions show, with space for a code each
+  pub home-by-calls : (l : LoadCall) (t : Table) → AcceptedAs l t → (fallback : Bool) (s : List ℕ) → AllByte s
+      → isCode (stepsOf t) 0 s ≡ true
+      → (c : ToCall) (d : FromCall) → OnLoaded l c → OnLoaded l d → settingsOf c ≡ strict fallback
+      → settingsOf d ≡ strict fallback
+      → inputOf c ≡ s → inputOf d ≡ writtenBy c → 4 ≤ length (outputLent c) → 4 ≤ length (outputLent d)
+      → RoundTrips t fallback s ↔ ((c .result .end ≡ AllRead) × (d .result .end ≡ AllRead) × (writtenBy d ≡ s))
+  -- the causes otherwise, the lowest that holds: ended by `u`; no line reads it; written as another code; not written
+  pub cause-one : (t : Table) (fallback : Bool) (c : List ℕ) → (RoundTrips t fallback c → ⊥)
+      → endKind (stepsOf t) 0 c ≡ 3 → causeOf t fallback c ≡ 1
+  pub cause-two : (t : Table) (fallback : Bool) (c : List ℕ) → (endKind (stepsOf t) 0 c ≡ 3 → ⊥)
+      → reader c (t .lines) ≡ none → causeOf t fallback c ≡ 2
+  pub cause-three : (t : Table) (fallback : Bool) (c : List ℕ) → (endKind (stepsOf t) 0 c ≡ 3 → ⊥)
+      → (l : Line) (d : List ℕ)
+      → reader c (t .lines) ≡ some l → writes t fallback (l .point) ≡ code d → (d ≡ c → ⊥) → causeOf t fallback c ≡ 3
+  pub cause-four : (t : Table) (fallback : Bool) (c : List ℕ) → (endKind (stepsOf t) 0 c ≡ 3 → ⊥) → (l : Line)
+      → reader c (t .lines) ≡ some l → ((d : List ℕ) → writes t fallback (l .point) ≡ code d → ⊥)
+      → causeOf t fallback c ≡ 4
+
+-- THE PROGRAM: its calls, in its order, write what document 01 says for the table's text and the input
+pub record TheProgram : Type 1 where
+  pub whole-output : (b : Begun) (c : Course b) (input : List ℕ) → Reads b c input
+      → written b c ≡ outputOf (textOf (b .load)) input
+  -- where the table cannot be read, and where it is empty, that is all; table K with the frame 817C33
+  pub no-table : (input : List ℕ) → (programOutput none input ≡ ascii "NO TABLE\n")
+      × (programOutput (some []) input ≡ ascii "TABLE REFUSED 27 1\n")
+  pub k-output : outputOf kText (ascii "817C33\n")
+      ≡ ascii "TABLE OK 6\n0 3 E2889233\n3F 2\n817D 3\n8180 1\nLOOKED 7 LISTED 3\n"
+
+-- ALL OF IT
+pub record Promises : Type 2 where
+  pub demand1 : Demand1
+  pub demand2 : Demand2
+  pub demand3 : Demand3
+  -- the starred cases 1 to 8, over the terms of the functions' contracts on what the load of K's text left
+  pub starred : Starred
+  pub program : TheProgram

@@ -1,0 +1,123 @@
+-- Words of the promises: what a call of `load` refuses for, what a refusal leaves, and what a call answers by a
+-- definition.
+use Prim.Native.Nat.{ℕ, _<_, _≤_}
+use mathlib.Core.Path.{_≡_}
+use mathlib.Core.Logic.{_⊎_}
+use mathlib.Core.List.{List, _++_}
+use lib.ListN.{length, take, drop, replicate}
+use denote.Ref.{now}
+use borrow.Fn.Kinds.{Out}
+use Rattle.lists.specs.Order.{All}
+use Rattle.lists.specs.Paging.{Page}
+use Rattle.table.specs.Limits.{limits, needed}
+use Rattle.table.specs.Text.{linesOf}
+use Rattle.table.specs.FirstLine.{FirstHolds, NeverEnds}
+use Rattle.table.specs.Lookup.{CodeFound, PointFound}
+use Rattle.table.specs.Slices.{Slices, Lent}
+use Rattle.table.specs.declared.states.Code.{Code}
+use Rattle.table.specs.declared.valid.Record.{Record}
+use Rattle.table.specs.declared.load.Refusal.{Refusal}
+use Rattle.table.specs.declared.load.Refusal.the-variants as refusal
+use Rattle.convert.specs.Run.{Run, convertedOf, putOut, endNumber, runNumber}
+use Rattle.convert.proofs.to_utf8.Kinds as of-to-utf8
+use Rattle.audit.specs.Audit.{Answer, endingNumber, auditNumber, auditedOf, spaceAfter}
+use Rattle.audit.specs.Demand.{AuditCall}
+use Rattle.audit.specs.declared.Audited.{Audited}
+use Rattle.promises.specs.Calls.{CodeCall, PointCall}
+use Rattle.promises.specs.Calls.{LoadCall, textOf, lentTo, leftAfter, MayLoad, ConversionCall, recordGiven}
+use Rattle.promises.specs.Calls.{slicesGiven, outputLent, outputAfter}
+use Rattle.promises.specs.Calls.{AuditFunctionCall, recordAudited, slicesAudited, fallbackOf, positionOf}
+use Rattle.promises.specs.Calls.{allowanceOf, spaceLent, spaceAfterwards}
+
+-- ## `load`
+
+-- why it refuses, and with which line: memory too small, before text too long, both with line 0; else what the text's
+-- lines say
+abbrev pub RefusedFor : LoadCall → Refusal → ℕ → Type 0
+RefusedFor c x k =
+    ((Lent limits (lentTo c) → ⊥) × (x ≡ refusal.MemoryTooSmall) × (k ≡ 0))
+    ⊎ ((Lent limits (lentTo c) × (limits .text < length (textOf c)) × (x ≡ refusal.TextTooLong) × (k ≡ 0))
+    ⊎ (MayLoad c × (FirstHolds limits (linesOf (textOf c)) x k ⊎ NeverEnds limits (linesOf (textOf c)) x k)))
+
+-- the first n numbers are zeros, and those behind them as before
+abbrev pub Zeroed : ℕ → List ℕ → List ℕ → Type 0
+Zeroed n old new = new ≡ replicate n 0 ++ drop n old
+
+-- the needed numbers of all four slices
+abbrev pub AllZeroed : Slices → Slices → Type 0
+AllZeroed old new =
+    Zeroed (needed limits) (old .states) (new .states)
+    × Zeroed (limits .mappings) (old .codes) (new .codes)
+    × Zeroed (limits .mappings) (old .infos) (new .infos)
+    × Zeroed (limits .mappings) (old .order) (new .order)
+
+-- the numbers past the needed ones are as before
+abbrev pub SameBeyond : Slices → Slices → Type 0
+SameBeyond old new =
+    (drop (needed limits) (new .states) ≡ drop (needed limits) (old .states))
+    × (drop (limits .mappings) (new .codes) ≡ drop (limits .mappings) (old .codes))
+    × (drop (limits .mappings) (new .infos) ≡ drop (limits .mappings) (old .infos))
+    × (drop (limits .mappings) (new .order) ≡ drop (limits .mappings) (old .order))
+
+-- the numbers fit into 32 bits, as those of a slice of u32 do
+pub record Words (rec : Record) (m : Slices) : Type 0 where
+  pub codes-fit : All (λ x. x < 4294967296) (m .codes)
+  pub subchar-fits : rec .subchar .bits < 4294967296
+
+-- ## Look-up
+
+-- a call of `find_code`: record, codes, infos and the code; one of `find_point`: record, codes, infos, order and the
+-- code point
+abbrev pub FindsCode : CodeCall → Type 0
+FindsCode c =
+    let a = c .args in
+    CodeFound (a .0) (now (a .1 .0)) (now (a .1 .1 .0)) (a .1 .1 .1 .0) (c .result)
+
+abbrev pub FindsPoint : PointCall → Type 0
+FindsPoint c =
+    let a = c .args in
+    PointFound (a .0) (now (a .1 .0)) (now (a .1 .1 .0)) (now (a .1 .1 .1 .0)) (a .1 .1 .1 .1 .0) (c .result)
+
+-- ## The conversions
+
+-- a call answers by this run: how it ended, bytes read and written, the number; the output slice has the bytes in
+-- front and keeps the rest
+module _ {Post : Out 6 of-to-utf8.ps of-to-utf8.r} where
+  pub record AnswersBy (run : Run) (c : ConversionCall Post) : Type 0 where
+    pub result : c .result ≡ convertedOf run
+    pub output : outputAfter c ≡ putOut run (outputLent c)
+    pub number : endNumber (c .result .end) ≡ runNumber run
+
+  -- a call on the record and the slices that a load handed back and left
+  abbrev pub OnLoaded : LoadCall → ConversionCall Post → Type 0
+  OnLoaded l c = (recordGiven c ≡ l .result .table) × (slicesGiven c ≡ leftAfter l)
+
+-- ## The audit
+
+-- a call answers by this definition
+pub record AuditsBy (a : Answer) (c : AuditFunctionCall) : Type 0 where
+  pub result : c .result ≡ auditedOf a
+  pub space : spaceAfterwards c ≡ spaceAfter a (spaceLent c)
+  pub number : endingNumber (c .result .ending) ≡ auditNumber a
+
+-- the page that it handed back: its entries are the numbers in the space
+abbrev pub pageIn : Audited → List ℕ → Page ℕ Code
+pageIn r space =
+    record { entries = take (r .written) space; count = r .count; position = r .position; finished = r .finished }
+
+-- what it got, handed back and left in its space, as demand 3 speaks of it
+abbrev pub callOf : AuditFunctionCall → AuditCall ℕ
+callOf c =
+    record {
+      table = recordAudited c;
+      memory = slicesAudited c;
+      fallback = fallbackOf c;
+      ending = c .result .ending;
+      paged =
+          record {
+            allowance = allowanceOf c;
+            space = length (spaceLent c);
+            came = positionOf c;
+            page = pageIn (c .result) (spaceAfterwards c);
+          };
+    }
