@@ -1,8 +1,9 @@
 /*
- * Oboepond: conversion between a code page and UTF-8, by a conversion table in lent memory.
+ * Oboepond: conversion between a code page and Unicode text in UTF-8 or UTF-32, by a conversion table
+ * in lent memory.
  *
  * No function keeps anything between calls or takes memory but its stack: at most 2 KiB for load and
- * check, 36 KiB for the two conversions, 3 KiB for the audit. Each is proved: for every content of the
+ * check, 36 KiB for each conversion, 3 KiB for the audit. Each is proved: for every content of the
  * slices it answers what is written here, ends, and touches no other memory.
  * The caller sees to it that each pointer is not null, is aligned for its type and has the stated
  * number of elements behind it (a pointer of length 0 too is not null), and that no slice that is
@@ -17,7 +18,9 @@
  * Numbers past the needed ones are never touched.
  *
  * Every function answers OBOEPOND_SHORT (70) where `record` or `result` has fewer numbers than it
- * says: then nothing is written anywhere. A `result` longer than said keeps the rest of its values.
+ * says, and a function that takes a scheme OBOEPOND_NO_SCHEME (71) where the number is none: then
+ * nothing is written anywhere, `result` included. 70 goes before 71, and both before all others. A
+ * `result` longer than said keeps the rest of its values.
  */
 #ifndef OBOEPOND_H
 #define OBOEPOND_H
@@ -33,6 +36,16 @@ extern "C" {
 #define OBOEPOND_STATES 4096
 #define OBOEPOND_MAPPINGS 2048
 #define OBOEPOND_RECORD 7
+
+/* Schemes: how Unicode text stands in bytes. UTF-8 is that of RFC 3629. UTF-32 has four bytes for each
+ * character: a surrogate, or a number over 10FFFF, is illegal (52); a rest of fewer than four bytes is
+ * cut short (51). */
+#define OBOEPOND_UTF8 0
+#define OBOEPOND_UTF32BE 1 /* big-endian; an initial FEFF is text */
+#define OBOEPOND_UTF32LE 2 /* little-endian; an initial FEFF is text */
+#define OBOEPOND_UTF32 3   /* with a byte order mark, which is no text. Read: 00 00 FE FF at the front says
+                              big-endian, FF FE 00 00 little-endian, no mark big-endian. Written:
+                              00 00 FE FF, then big-endian */
 
 /* Done: the text is accepted; the table is valid; all is read; codes were looked at. */
 #define OBOEPOND_OK 0
@@ -66,8 +79,9 @@ extern "C" {
 #define OBOEPOND_BAD_POSITION 40 /* the position is neither the beginning nor a complete code */
 
 /* A conversion ends before all is read, at the first sequence for which one holds; of several at one
- * place the order is 51, 52, 53, 50. */
-#define OBOEPOND_FULL 50       /* what the sequence gives does not fit into the output */
+ * place the order is 51, 52, 53, 50. Only the mark that OBOEPOND_UTF32 writes goes before the first
+ * sequence: 50 where it does not fit, whatever the input. */
+#define OBOEPOND_FULL 50       /* what the sequence gives, or the mark, does not fit into the output */
 #define OBOEPOND_CUT_SHORT 51  /* the input ends inside a sequence */
 #define OBOEPOND_ILLEGAL 52    /* the sequence is illegal */
 #define OBOEPOND_UNASSIGNED 53 /* the sequence is unassigned, and substituting is off */
@@ -75,8 +89,9 @@ extern "C" {
 /* Record and memory are not what an accepted text leaves. */
 #define OBOEPOND_BAD_TABLE 60
 
-/* `record` or `result` is too short; this interface's own number. */
-#define OBOEPOND_SHORT 70
+/* This interface's own numbers. */
+#define OBOEPOND_SHORT 70     /* `record` or `result` is too short */
+#define OBOEPOND_NO_SCHEME 71 /* the number given for the scheme is none of those above */
 
 /*
  * Loads a table's text. Answers 0, or 1 to 27 as above; 70 where result has fewer than 8 numbers.
@@ -109,6 +124,7 @@ uint32_t oboepond_check(const uint32_t *record, size_t record_len,
  * result: bytes read, bytes written. Reading stops before the sequence that the number is about, and
  * what was written before it stands; output bytes past the written count keep their values.
  * With 60 nothing is read or written: result is 0, 0.
+ * An output of four bytes for each byte of input is always enough.
  */
 uint32_t oboepond_to_utf8(const uint32_t *record, size_t record_len,
                           const uint16_t *states, size_t states_len,
@@ -134,6 +150,45 @@ uint32_t oboepond_from_utf8(const uint32_t *record, size_t record_len,
                             uint8_t *output, size_t output_len,
                             uint32_t fallback, uint32_t substitute,
                             uint64_t *result, size_t result_len);
+
+/*
+ * From the table's bytes to Unicode text in a scheme; with OBOEPOND_UTF8 this is oboepond_to_utf8.
+ * With OBOEPOND_UTF32 the mark is written before any byte of the input is looked at, for an empty input
+ * too; where the output has fewer than four bytes, the answer is 50 (only 60 goes before) and result is 0, 0. The bytes
+ * written include the mark.
+ * Answers 0, 50 to 53 or 60; 70 as for oboepond_to_utf8, 71 where scheme is none of the four.
+ * substitute, result and output as for oboepond_to_utf8. An output of four bytes for each byte of input
+ * is always enough; OBOEPOND_UTF32 needs four more for the mark. After a 50 with the mark written, go on
+ * with OBOEPOND_UTF32BE, so that no second mark is written.
+ */
+uint32_t oboepond_to_unicode(const uint32_t *record, size_t record_len,
+                             const uint16_t *states, size_t states_len,
+                             const uint32_t *codes, size_t codes_len,
+                             const uint32_t *infos, size_t infos_len,
+                             const uint32_t *order, size_t order_len,
+                             const uint8_t *input, size_t input_len,
+                             uint8_t *output, size_t output_len,
+                             uint32_t scheme, uint32_t substitute,
+                             uint64_t *result, size_t result_len);
+
+/*
+ * From Unicode text in a scheme to the table's bytes; with OBOEPOND_UTF8 this is oboepond_from_utf8.
+ * With OBOEPOND_UTF32 a mark at the front gives no output, and its four bytes count as read: 4 with the
+ * mark alone, and 4 where the first character behind it stops the conversion. A second mark is text.
+ * A mark is looked for at the front of each call's input: once a call has read four bytes or more, go
+ * on with OBOEPOND_UTF32LE if the text began FF FE 00 00, else with OBOEPOND_UTF32BE, mark or no mark.
+ * Answers 0, 50 to 53 or 60; 70 and 71 as for oboepond_to_unicode. fallback, substitute, result and
+ * output as for oboepond_from_utf8.
+ */
+uint32_t oboepond_from_unicode(const uint32_t *record, size_t record_len,
+                               const uint16_t *states, size_t states_len,
+                               const uint32_t *codes, size_t codes_len,
+                               const uint32_t *infos, size_t infos_len,
+                               const uint32_t *order, size_t order_len,
+                               const uint8_t *input, size_t input_len,
+                               uint8_t *output, size_t output_len,
+                               uint32_t scheme, uint32_t fallback, uint32_t substitute,
+                               uint64_t *result, size_t result_len);
 
 /*
  * One call of the audit: looks at the complete codes after a position, in byte order, and writes an

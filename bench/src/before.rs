@@ -5,7 +5,7 @@ use crate::dynamic::{Folder, Opened};
 use crate::library::{loading, Build, Lent, LINKED};
 use crate::pipes::both_ways;
 use crate::raw::Calls;
-use crate::texts::{load_texts, mappings, table_text, Texts, BLENDS, MIXED};
+use crate::texts::{load_texts, mappings, table_text, Scheme, Texts, BLENDS, MIXED};
 use crate::timing::{figure, nothing, way, Amount};
 use std::cell::RefCell;
 use std::path::Path;
@@ -29,15 +29,25 @@ pub fn run(folder: &Path) {
     let tests = [&linked, &other].map(|lent| way(lent.build.name, || lent.check()));
     figure("test behind 60", "none written", None, &mut nothing, tests.into());
     for blend in BLENDS {
-        both_ways(&Texts::in_frames(&all, blend), &[&linked, &other]);
-        both_ways(&Texts::in_one_piece(&all, blend), &[&linked, &other]);
+        let frames = Texts::in_frames(&all, blend);
+        both_ways(&frames, &[&linked, &other]);
+        both_ways(&frames.in_one_call(), &[&linked, &other]);
     }
     for size in [16, 64, 256] {
         both_ways(&Texts::in_pieces(&all, MIXED, size, SHORT_PIECES), &[&linked, &other]);
     }
+    if calls.to_unicode.is_none() || calls.from_unicode.is_none() {
+        println!("before: no UTF-32 in it");
+        return;
+    }
+    for blend in BLENDS {
+        let frames = Texts::in_scheme(&all, blend, Scheme::Utf32Be);
+        both_ways(&frames, &[&linked, &other]);
+        both_ways(&frames.in_one_call(), &[&linked, &other]);
+    }
 }
 
-/// The calls of the archive.
+/// The calls of the archive; one from before UTF-32 lacks two.
 fn opened(archive: &Path) -> Result<Calls, String> {
     let folder = Folder::make()?;
     let shared = folder.0.join("libbefore.so");
@@ -46,11 +56,13 @@ fn opened(archive: &Path) -> Result<Calls, String> {
     // SAFETY: the types are those of the library's header.
     unsafe {
         Ok(Calls {
-            load: library.call("oboepond_load")?,
-            check: library.call("oboepond_check")?,
-            to_utf8: library.call("oboepond_to_utf8")?,
-            from_utf8: library.call("oboepond_from_utf8")?,
-            audit: library.call("oboepond_audit")?,
+            load: Some(library.call("oboepond_load")?),
+            check: Some(library.call("oboepond_check")?),
+            to_utf8: Some(library.call("oboepond_to_utf8")?),
+            from_utf8: Some(library.call("oboepond_from_utf8")?),
+            to_unicode: library.call("oboepond_to_unicode").ok(),
+            from_unicode: library.call("oboepond_from_unicode").ok(),
+            audit: Some(library.call("oboepond_audit")?),
         })
     }
 }

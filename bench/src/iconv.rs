@@ -1,7 +1,7 @@
 //! iconv of the C library, with its own table of Shift-JIS.
 
 use crate::pipes::Converter;
-use crate::texts::{codes, Mapping, MAPPINGS};
+use crate::texts::{codes, Mapping, Scheme, MAPPINGS};
 use std::ffi::{c_char, c_int, c_void, CStr};
 use std::ptr::null_mut;
 
@@ -17,6 +17,8 @@ extern "C" {
     fn iconv_close(cd: *mut c_void) -> c_int;
     fn gnu_get_libc_version() -> *const c_char;
 }
+
+const TABLE: &CStr = c"SHIFT_JIS";
 
 /// One direction.
 struct Direction(*mut c_void);
@@ -51,16 +53,23 @@ impl Drop for Direction {
     }
 }
 
+/// Both directions, for UTF-8 and for UTF-32BE.
 pub struct Iconv {
-    to_utf8: Direction,
-    from_utf8: Direction,
+    utf8: [Direction; 2],
+    utf32be: [Direction; 2],
 }
 
 impl Iconv {
     pub fn open() -> Option<Iconv> {
-        let to_utf8 = Direction::open(c"UTF-8", c"SHIFT_JIS")?;
-        let from_utf8 = Direction::open(c"SHIFT_JIS", c"UTF-8")?;
-        Some(Iconv { to_utf8, from_utf8 })
+        let both = |unicode| Some([Direction::open(unicode, TABLE)?, Direction::open(TABLE, unicode)?]);
+        Some(Iconv { utf8: both(c"UTF-8")?, utf32be: both(c"UTF-32BE")? })
+    }
+
+    fn both(&self, scheme: Scheme) -> &[Direction; 2] {
+        match scheme {
+            Scheme::Utf8 => &self.utf8,
+            Scheme::Utf32Be => &self.utf32be,
+        }
     }
 
     pub fn version(&self) -> String {
@@ -76,8 +85,9 @@ impl Iconv {
 
     fn mapping(&self, code: Vec<u8>) -> Option<Mapping> {
         let (mut utf8, mut back) = ([0; 16], [0; 16]);
-        let n = self.to_utf8.convert(&code, &mut utf8)?;
-        let m = self.from_utf8.convert(&utf8[..n], &mut back)?;
+        let [to, from] = &self.utf8;
+        let n = to.convert(&code, &mut utf8)?;
+        let m = from.convert(&utf8[..n], &mut back)?;
         let mut chars = std::str::from_utf8(&utf8[..n]).ok()?.chars();
         let cp = chars.next()? as u32;
         (chars.next().is_none() && back[..m] == code[..]).then_some(Mapping { cp, code, kind: 0 })
@@ -89,11 +99,11 @@ impl Converter for Iconv {
         "iconv, its own table"
     }
 
-    fn to_utf8(&self, input: &[u8], output: &mut [u8]) -> usize {
-        self.to_utf8.convert(input, output).expect("iconv converts the whole input")
+    fn to_unicode(&self, scheme: Scheme, input: &[u8], output: &mut [u8]) -> usize {
+        self.both(scheme)[0].convert(input, output).expect("iconv converts the whole input")
     }
 
-    fn from_utf8(&self, input: &[u8], output: &mut [u8]) -> usize {
-        self.from_utf8.convert(input, output).expect("iconv converts the whole input")
+    fn from_unicode(&self, scheme: Scheme, input: &[u8], output: &mut [u8]) -> usize {
+        self.both(scheme)[1].convert(input, output).expect("iconv converts the whole input")
     }
 }

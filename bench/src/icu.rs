@@ -3,6 +3,7 @@
 
 use crate::dynamic::{c_text, Folder, Opened};
 use crate::pipes::Converter;
+use crate::texts::Scheme;
 use std::ffi::{c_char, c_int, c_void, CStr};
 use std::path::Path;
 use std::process::{Command, Stdio};
@@ -68,10 +69,11 @@ impl Calls {
         opened(converter, error)
     }
 
-    fn open_utf8(&self) -> Result<*mut c_void, String> {
+    /// A converter of ICU's own.
+    fn open_own(&self, name: &CStr) -> Result<*mut c_void, String> {
         let mut error = 0;
         // SAFETY: the name ends in NUL.
-        let converter = unsafe { (self.open)(c"UTF-8".as_ptr(), &mut error) };
+        let converter = unsafe { (self.open)(name.as_ptr(), &mut error) };
         opened(converter, error)
     }
 }
@@ -88,6 +90,7 @@ pub struct Icu {
     folder: Folder,
     table: *mut c_void,
     utf8: *mut c_void,
+    utf32be: *mut c_void,
 }
 
 impl Icu {
@@ -97,8 +100,16 @@ impl Icu {
         let folder = Folder::make()?;
         std::fs::write(folder.0.join("bench-sjis.ucm"), text).map_err(|e| format!("table not written: {e}"))?;
         make_table(&folder.0)?;
-        let (table, utf8) = (calls.open_table(&folder)?, calls.open_utf8()?);
-        Ok(Icu { calls, folder, table, utf8 })
+        let table = calls.open_table(&folder)?;
+        let (utf8, utf32be) = (calls.open_own(c"UTF-8")?, calls.open_own(c"UTF-32BE")?);
+        Ok(Icu { calls, folder, table, utf8, utf32be })
+    }
+
+    fn unicode(&self, scheme: Scheme) -> *mut c_void {
+        match scheme {
+            Scheme::Utf8 => self.utf8,
+            Scheme::Utf32Be => self.utf32be,
+        }
     }
 
     pub fn version(&self) -> String {
@@ -160,6 +171,7 @@ impl Drop for Icu {
         unsafe {
             (self.calls.close)(self.table);
             (self.calls.close)(self.utf8);
+            (self.calls.close)(self.utf32be);
         }
     }
 }
@@ -179,11 +191,11 @@ impl Converter for Icu {
         "ICU, same table"
     }
 
-    fn to_utf8(&self, input: &[u8], output: &mut [u8]) -> usize {
-        self.convert(self.utf8, self.table, input, output)
+    fn to_unicode(&self, scheme: Scheme, input: &[u8], output: &mut [u8]) -> usize {
+        self.convert(self.unicode(scheme), self.table, input, output)
     }
 
-    fn from_utf8(&self, input: &[u8], output: &mut [u8]) -> usize {
-        self.convert(self.table, self.utf8, input, output)
+    fn from_unicode(&self, scheme: Scheme, input: &[u8], output: &mut [u8]) -> usize {
+        self.convert(self.table, self.unicode(scheme), input, output)
     }
 }

@@ -2,6 +2,7 @@
 
 use crate::memory::Memory;
 use crate::raw::{self, Calls};
+use crate::texts::Scheme;
 use crate::timing::{way, Way};
 use std::cell::RefCell;
 use std::hint::black_box;
@@ -15,6 +16,9 @@ pub struct Build {
 
 /// The static library that is linked.
 pub const LINKED: Build = Build { name: "library", calls: raw::LINKED };
+
+/// UTF-32BE in the C header.
+const UTF32BE: u32 = 1;
 
 /// The lent memory and the record.
 pub struct Lent {
@@ -58,16 +62,24 @@ impl Lent {
         self.build.calls.check(&self.record, &self.memory)
     }
 
-    /// Number, bytes read, bytes written.
-    pub fn to_utf8(&self, input: &[u8], output: &mut [u8]) -> (u32, usize, usize) {
+    /// Number, bytes read, bytes written. UTF-8 by the calls for it alone.
+    pub fn to_unicode(&self, scheme: Scheme, input: &[u8], output: &mut [u8]) -> (u32, usize, usize) {
+        let (calls, record, memory) = (&self.build.calls, &self.record, &self.memory);
         let mut result = [0; 2];
-        let number = self.build.calls.to_utf8(&self.record, &self.memory, input, output, 1, &mut result);
+        let number = match scheme {
+            Scheme::Utf8 => calls.to_utf8(record, memory, input, output, 1, &mut result),
+            Scheme::Utf32Be => calls.to_unicode(record, memory, input, output, UTF32BE, 1, &mut result),
+        };
         (number, result[0] as usize, result[1] as usize)
     }
 
-    pub fn from_utf8(&self, input: &[u8], output: &mut [u8]) -> (u32, usize, usize) {
+    pub fn from_unicode(&self, scheme: Scheme, input: &[u8], output: &mut [u8]) -> (u32, usize, usize) {
+        let (calls, record, memory) = (&self.build.calls, &self.record, &self.memory);
         let mut result = [0; 2];
-        let number = self.build.calls.from_utf8(&self.record, &self.memory, input, output, 0, 1, &mut result);
+        let number = match scheme {
+            Scheme::Utf8 => calls.from_utf8(record, memory, input, output, 0, 1, &mut result),
+            Scheme::Utf32Be => calls.from_unicode(record, memory, input, output, UTF32BE, 0, 1, &mut result),
+        };
         (number, result[0] as usize, result[1] as usize)
     }
 

@@ -1,8 +1,8 @@
 //! Times the library beside a straightforward Rust converter over the same
 //! table in the same run, and beside ICU and iconv. Figures are ratios: time of
 //! the library divided by time of the other. The argument `look-ups` asks for the
-//! look-ups alone, `peers` for ICU and iconv alone, and `before FOLDER` for
-//! another build of the library.
+//! look-ups alone, `schemes` for UTF-32BE beside UTF-8 alone, `peers` for ICU and
+//! iconv alone, and `before FOLDER` for another build of the library.
 //!
 //! Each figure is the median of several rounds; a second ratio is that of the
 //! least times, for a busy machine. The state of the buffers is printed with
@@ -43,13 +43,15 @@ fn main() {
         [] => {
             own_figures();
             look_ups();
+            peers::schemes();
             peers::run();
         }
         ["look-ups"] => look_ups(),
+        ["schemes"] => peers::schemes(),
         ["peers"] => peers::run(),
         ["before", folder] => before::run(folder.as_ref()),
         _ => {
-            println!("arguments: none, `look-ups`, `peers` or `before FOLDER`");
+            println!("arguments: none, `look-ups`, `schemes`, `peers` or `before FOLDER`");
             std::process::exit(2);
         }
     }

@@ -4,41 +4,74 @@
 use crate::iconv::Iconv;
 use crate::icu::Icu;
 use crate::library::{Lent, LINKED};
-use crate::pipes::{both_ways, own};
+use crate::pipes::{both_ways, own, Converter};
 use crate::plain::Plain;
-use crate::texts::{mappings, table_text, Texts, BLENDS};
+use crate::texts::{mappings, table_text, Mapping, Scheme, Texts, BLENDS};
 use crate::timing::least;
 
-pub fn run() {
-    let iconv = Iconv::open();
-    let chosen = iconv.as_ref().map_or_else(mappings, Iconv::mappings);
-    let text = table_text(&chosen);
-    let lent = Lent::with(LINKED, &text);
-    let plains = Plain::all(&text);
-    let icu = Icu::with(&text);
+struct Peers {
+    mappings: Vec<Mapping>,
+    text: Vec<u8>,
+    lent: Lent,
+    plains: [Plain; 3],
+    icu: Result<Icu, String>,
+    iconv: Option<Iconv>,
+}
 
-    let mut converters = own(&lent, &plains);
-    match &icu {
-        Ok(icu) => {
-            println!("{}", icu.version());
-            converters.push(icu);
-        }
-        Err(why) => println!("ICU: {why}"),
+impl Peers {
+    fn open() -> Peers {
+        let iconv = Iconv::open();
+        let mappings = iconv.as_ref().map_or_else(mappings, Iconv::mappings);
+        let text = table_text(&mappings);
+        let (lent, plains, icu) = (Lent::with(LINKED, &text), Plain::all(&text), Icu::with(&text));
+        Peers { mappings, text, lent, plains, icu, iconv }
     }
-    match &iconv {
-        Some(iconv) => {
-            println!("iconv: {}", iconv.version());
-            converters.push(iconv);
+
+    /// All that are there, and a line on each.
+    fn converters(&self) -> Vec<&dyn Converter> {
+        let mut converters = own(&self.lent, &self.plains);
+        match &self.icu {
+            Ok(icu) => {
+                println!("{}", icu.version());
+                converters.push(icu);
+            }
+            Err(why) => println!("ICU: {why}"),
         }
-        None => println!("iconv: no SHIFT_JIS here"),
+        match &self.iconv {
+            Some(iconv) => {
+                println!("iconv: {}", iconv.version());
+                converters.push(iconv);
+            }
+            None => println!("iconv: no SHIFT_JIS here"),
+        }
+        println!("table for these: {} mappings, {} bytes of text", self.mappings.len(), self.text.len());
+        converters
     }
-    println!("table for these: {} mappings, {} bytes of text", chosen.len(), text.len());
+}
+
+pub fn run() {
+    let peers = Peers::open();
+    let converters = peers.converters();
     for blend in BLENDS {
-        both_ways(&Texts::in_frames(&chosen, blend), &converters);
-        both_ways(&Texts::in_one_piece(&chosen, blend), &converters);
+        let frames = Texts::in_frames(&peers.mappings, blend);
+        both_ways(&frames, &converters);
+        both_ways(&frames.in_one_call(), &converters);
     }
-    if let Ok(icu) = icu {
-        loads(lent, &text, icu);
+    if let Ok(icu) = peers.icu {
+        loads(peers.lent, &peers.text, icu);
+    }
+}
+
+/// The same characters in UTF-8 and in UTF-32BE.
+pub fn schemes() {
+    let peers = Peers::open();
+    let converters = peers.converters();
+    for blend in BLENDS {
+        for scheme in Scheme::ALL {
+            let frames = Texts::in_scheme(&peers.mappings, blend, scheme);
+            both_ways(&frames, &converters);
+            both_ways(&frames.in_one_call(), &converters);
+        }
     }
 }
 

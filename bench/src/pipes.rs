@@ -2,7 +2,7 @@
 
 use crate::library::Lent;
 use crate::plain::{self, Plain};
-use crate::texts::Texts;
+use crate::texts::{Scheme, Texts};
 use crate::timing::{figure, nothing, way};
 use std::cell::RefCell;
 
@@ -10,8 +10,8 @@ use std::cell::RefCell;
 /// wrote.
 pub trait Converter {
     fn name(&self) -> &str;
-    fn to_utf8(&self, input: &[u8], output: &mut [u8]) -> usize;
-    fn from_utf8(&self, input: &[u8], output: &mut [u8]) -> usize;
+    fn to_unicode(&self, scheme: Scheme, input: &[u8], output: &mut [u8]) -> usize;
+    fn from_unicode(&self, scheme: Scheme, input: &[u8], output: &mut [u8]) -> usize;
 }
 
 fn whole(input: &[u8], (number, read, written): (u32, usize, usize)) -> usize {
@@ -24,12 +24,12 @@ impl Converter for Lent {
         self.build.name
     }
 
-    fn to_utf8(&self, input: &[u8], output: &mut [u8]) -> usize {
-        whole(input, self.to_utf8(input, output))
+    fn to_unicode(&self, scheme: Scheme, input: &[u8], output: &mut [u8]) -> usize {
+        whole(input, self.to_unicode(scheme, input, output))
     }
 
-    fn from_utf8(&self, input: &[u8], output: &mut [u8]) -> usize {
-        whole(input, self.from_utf8(input, output))
+    fn from_unicode(&self, scheme: Scheme, input: &[u8], output: &mut [u8]) -> usize {
+        whole(input, self.from_unicode(scheme, input, output))
     }
 }
 
@@ -38,12 +38,20 @@ impl Converter for Plain {
         self.search.name()
     }
 
-    fn to_utf8(&self, input: &[u8], output: &mut [u8]) -> usize {
-        whole(input, self.to_utf8(input, output, true))
+    fn to_unicode(&self, scheme: Scheme, input: &[u8], output: &mut [u8]) -> usize {
+        let done = match scheme {
+            Scheme::Utf8 => self.to_utf8(input, output, true),
+            Scheme::Utf32Be => self.to_utf32be(input, output, true),
+        };
+        whole(input, done)
     }
 
-    fn from_utf8(&self, input: &[u8], output: &mut [u8]) -> usize {
-        whole(input, self.from_utf8(input, output, false, true))
+    fn from_unicode(&self, scheme: Scheme, input: &[u8], output: &mut [u8]) -> usize {
+        let done = match scheme {
+            Scheme::Utf8 => self.from_utf8(input, output, false, true),
+            Scheme::Utf32Be => self.from_utf32be(input, output, false, true),
+        };
+        whole(input, done)
     }
 }
 
@@ -61,14 +69,14 @@ impl Converter for Tested<'_> {
         "plain, sorted, tested"
     }
 
-    fn to_utf8(&self, input: &[u8], output: &mut [u8]) -> usize {
+    fn to_unicode(&self, scheme: Scheme, input: &[u8], output: &mut [u8]) -> usize {
         assert!(tested(self.1), "the plain test of the memory");
-        Converter::to_utf8(self.0, input, output)
+        self.0.to_unicode(scheme, input, output)
     }
 
-    fn from_utf8(&self, input: &[u8], output: &mut [u8]) -> usize {
+    fn from_unicode(&self, scheme: Scheme, input: &[u8], output: &mut [u8]) -> usize {
         assert!(tested(self.1), "the plain test of the memory");
-        Converter::from_utf8(self.0, input, output)
+        self.0.from_unicode(scheme, input, output)
     }
 }
 
@@ -78,39 +86,42 @@ pub fn own<'a>(lent: &'a Lent, plains: &'a [Plain]) -> Vec<&'a dyn Converter> {
     std::iter::once(lent as &dyn Converter).chain(plains).collect()
 }
 
-type Call = fn(&dyn Converter, &[u8], &mut [u8]) -> usize;
+type Call = fn(&dyn Converter, Scheme, &[u8], &mut [u8]) -> usize;
 
-const CALLS: [(&str, Call); 2] = [("to UTF-8", |c, i, o| c.to_utf8(i, o)), ("from UTF-8", |c, i, o| c.from_utf8(i, o))];
+const CALLS: [(&str, Call); 2] =
+    [("to", |c, s, i, o| c.to_unicode(s, i, o)), ("from", |c, s, i, o| c.from_unicode(s, i, o))];
 
 /// Compares the output of all converters byte by byte, then times them. The
 /// library is the first.
 pub fn both_ways(texts: &Texts, converters: &[&dyn Converter]) {
-    for ((name, call), pieces) in CALLS.into_iter().zip([&texts.codes, &texts.chars]) {
-        compare(name, call, pieces, converters);
+    let scheme = texts.scheme;
+    for ((way_of, call), pieces) in CALLS.into_iter().zip([&texts.codes, &texts.chars]) {
+        let name = format!("{way_of} {}, {}", scheme.name(), texts.name());
+        compare(&name, scheme, call, pieces, converters);
         let output = RefCell::new(space(pieces));
         let ways = converters.iter().map(|c| {
             let output = &output;
             way(c.name(), move || {
                 let mut output = output.borrow_mut();
-                pieces.iter().map(|p| call(*c, p, &mut output)).sum::<usize>()
+                pieces.iter().map(|p| call(*c, scheme, p, &mut output)).sum::<usize>()
             })
         });
-        figure(&format!("{name}, {}", texts.name()), "as left", Some(texts.amount), &mut nothing, ways.collect());
+        figure(&name, "as left", Some(texts.amount), &mut nothing, ways.collect());
     }
 }
 
-/// Space enough for every piece: a byte gives at most three.
+/// Space enough for every piece: a byte gives at most four.
 fn space(pieces: &[Vec<u8>]) -> Vec<u8> {
     vec![0; 4 * pieces.iter().map(Vec::len).max().unwrap_or(0)]
 }
 
-fn compare(name: &str, call: Call, pieces: &[Vec<u8>], converters: &[&dyn Converter]) {
+fn compare(name: &str, scheme: Scheme, call: Call, pieces: &[Vec<u8>], converters: &[&dyn Converter]) {
     let (mut first, mut other) = (space(pieces), space(pieces));
     for piece in pieces {
-        let n = call(converters[0], piece, &mut first);
+        let n = call(converters[0], scheme, piece, &mut first);
         for c in &converters[1..] {
             other.fill(0);
-            let m = call(*c, piece, &mut other);
+            let m = call(*c, scheme, piece, &mut other);
             assert!(first[..n] == other[..m], "{name}: {} gives other bytes than the library", c.name());
         }
     }

@@ -108,6 +108,20 @@ fn put(code: &[u8], place: &mut [u8]) {
     }
 }
 
+/// Writes a character at the front of a space: its length, if it fits.
+#[inline]
+fn put_utf8(c: char, space: &mut [u8]) -> Option<usize> {
+    let length = c.len_utf8();
+    c.encode_utf8(space.get_mut(..length)?);
+    Some(length)
+}
+
+#[inline]
+fn put_utf32be(c: char, space: &mut [u8]) -> Option<usize> {
+    *space.first_chunk_mut()? = (c as u32).to_be_bytes();
+    Some(4)
+}
+
 fn code_bytes(text: &str) -> Option<Vec<u8>> {
     let mut code = Vec::new();
     for part in text.split("\\x").skip(1) {
@@ -243,6 +257,22 @@ impl Plain {
 
     /// Number, bytes read, bytes written.
     pub fn to_utf8(&self, input: &[u8], output: &mut [u8], substitute: bool) -> (u32, usize, usize) {
+        self.read_all(input, output, substitute, put_utf8)
+    }
+
+    pub fn to_utf32be(&self, input: &[u8], output: &mut [u8], substitute: bool) -> (u32, usize, usize) {
+        self.read_all(input, output, substitute, put_utf32be)
+    }
+
+    /// With a way to write a character.
+    #[inline]
+    fn read_all(
+        &self,
+        input: &[u8],
+        output: &mut [u8],
+        substitute: bool,
+        put: impl Fn(char, &mut [u8]) -> Option<usize>,
+    ) -> (u32, usize, usize) {
         let (mut at, mut out) = (0, 0);
         while at < input.len() {
             let (mut row, mut code, mut n) = (0, 0u32, 0);
@@ -266,9 +296,7 @@ impl Plain {
                 None => 0xfffd,
             };
             let Some(c) = char::from_u32(cp) else { return (53, at, out) };
-            let length = c.len_utf8();
-            let Some(place) = output.get_mut(out..out + length) else { return (50, at, out) };
-            c.encode_utf8(place);
+            let Some(length) = put(c, &mut output[out..]) else { return (50, at, out) };
             at += n;
             out += length;
         }
@@ -283,8 +311,49 @@ impl Plain {
                 (std::str::from_utf8(&input[..e.valid_up_to()]).unwrap_or(""), number)
             }
         };
+        match self.write_all(good.char_indices(), output, fallback, substitute) {
+            Ok(out) => (number, good.len(), out),
+            Err(stopped) => stopped,
+        }
+    }
+
+    pub fn from_utf32be(
+        &self,
+        input: &[u8],
+        output: &mut [u8],
+        fallback: bool,
+        substitute: bool,
+    ) -> (u32, usize, usize) {
+        let mut read = 0;
+        let characters = input.chunks_exact(4).map_while(|four| {
+            let c = char::from_u32(u32::from_be_bytes(four.try_into().ok()?))?;
+            read += 4;
+            Some((read - 4, c))
+        });
+        match self.write_all(characters, output, fallback, substitute) {
+            Ok(out) => {
+                let number = match input.len() - read {
+                    0 => 0,
+                    1..=3 => 51,
+                    _ => 52,
+                };
+                (number, read, out)
+            }
+            Err(stopped) => stopped,
+        }
+    }
+
+    /// Characters with their places: bytes written, or what stopped it.
+    #[inline]
+    fn write_all(
+        &self,
+        characters: impl Iterator<Item = (usize, char)>,
+        output: &mut [u8],
+        fallback: bool,
+        substitute: bool,
+    ) -> Result<usize, (u32, usize, usize)> {
         let mut out = 0;
-        for (at, c) in good.char_indices() {
+        for (at, c) in characters {
             let four;
             let one;
             let code: &[u8] = match self.writes(c as u32) {
@@ -292,18 +361,18 @@ impl Plain {
                     four = bits.to_be_bytes();
                     &four[..length as usize]
                 }
-                _ if !substitute => return (53, at, out),
+                _ if !substitute => return Err((53, at, out)),
                 Some((_, _, 2)) => {
                     one = [self.subchar1.unwrap_or(0)];
                     &one
                 }
                 _ => &self.subchar,
             };
-            let Some(place) = output.get_mut(out..out + code.len()) else { return (50, at, out) };
+            let Some(place) = output.get_mut(out..out + code.len()) else { return Err((50, at, out)) };
             put(code, place);
             out += code.len();
         }
-        (number, good.len(), out)
+        Ok(out)
     }
 
     /// Entries (code bits, length, cause) of the whole audit and the count.

@@ -34,10 +34,39 @@ impl Mapping {
     fn utf8(&self) -> Vec<u8> {
         char::from_u32(self.cp).expect("a character").to_string().into_bytes()
     }
+
+    fn utf32be(&self) -> Vec<u8> {
+        self.cp.to_be_bytes().to_vec()
+    }
 }
 
 /// The bytes of a character in the one or the other text.
 type Side = fn(&Mapping) -> Vec<u8>;
+
+/// How Unicode text stands in bytes.
+#[derive(Clone, Copy)]
+pub enum Scheme {
+    Utf8,
+    Utf32Be,
+}
+
+impl Scheme {
+    pub const ALL: [Scheme; 2] = [Scheme::Utf8, Scheme::Utf32Be];
+
+    pub fn name(self) -> &'static str {
+        match self {
+            Scheme::Utf8 => "UTF-8",
+            Scheme::Utf32Be => "UTF-32BE",
+        }
+    }
+
+    fn side(self) -> Side {
+        match self {
+            Scheme::Utf8 => Mapping::utf8,
+            Scheme::Utf32Be => Mapping::utf32be,
+        }
+    }
+}
 
 /// The codes of Shift-JIS in order, single bytes first.
 pub fn codes() -> impl Iterator<Item = Vec<u8>> {
@@ -133,6 +162,8 @@ pub struct Texts {
     cut: String,
     /// Of either direction.
     pub amount: Amount,
+    /// Of the characters.
+    pub scheme: Scheme,
     pub codes: Vec<Vec<u8>>,
     pub chars: Vec<Vec<u8>>,
 }
@@ -143,13 +174,14 @@ impl Texts {
     }
 
     fn made(blend: &'static str, cut: String, amount: Amount, text: impl Fn(Side) -> Vec<Vec<u8>>) -> Texts {
-        Texts { blend, cut, amount, codes: text(Mapping::code), chars: text(Mapping::utf8) }
+        let scheme = Scheme::Utf8;
+        Texts { blend, cut, amount, scheme, codes: text(Mapping::code), chars: text(scheme.side()) }
     }
 
     pub fn in_pieces(mappings: &[Mapping], blend: Blend, size: usize, count: usize) -> Texts {
         let cut = format!("{count} pieces of {size} bytes");
         Texts::made(blend.name, cut, Amount::bytes(size * count), |side| {
-            pieces(characters(mappings, blend.shares), size, count, side)
+            bytes(&pieces(mappings, blend, size, count, side), side)
         })
     }
 
@@ -159,11 +191,23 @@ impl Texts {
         Texts { cut, ..Texts::in_pieces(mappings, blend, FRAME, TEXT / FRAME) }
     }
 
-    /// 1 MiB.
-    pub fn in_one_piece(mappings: &[Mapping], blend: Blend) -> Texts {
-        let frames = Texts::in_frames(mappings, blend);
-        let cut = "1 MiB in one call".into();
-        Texts { cut, codes: vec![frames.codes.concat()], chars: vec![frames.chars.concat()], ..frames }
+    /// The same characters in both directions: codes in frames, 1 MiB of them.
+    pub fn in_scheme(mappings: &[Mapping], blend: Blend, scheme: Scheme) -> Texts {
+        let frames = pieces(mappings, blend, FRAME, TEXT / FRAME, Mapping::code);
+        Texts {
+            blend: blend.name,
+            cut: "1 MiB of codes in frames".into(),
+            amount: Amount::bytes(TEXT),
+            scheme,
+            codes: bytes(&frames, Mapping::code),
+            chars: bytes(&frames, scheme.side()),
+        }
+    }
+
+    /// Frames joined to one piece.
+    pub fn in_one_call(self) -> Texts {
+        let cut = self.cut.replace("in frames", "in one call");
+        Texts { cut, codes: vec![self.codes.concat()], chars: vec![self.chars.concat()], ..self }
     }
 
     /// One piece of two-byte codes alone, 1 MiB of them: the same characters in
@@ -196,21 +240,24 @@ fn characters(mappings: &[Mapping], shares: [usize; 3]) -> impl Iterator<Item = 
     })
 }
 
-/// Pieces of exactly that size; where a character does not fit stands a space.
-fn pieces<'a>(
-    mut characters: impl Iterator<Item = &'a Mapping>,
-    size: usize,
-    count: usize,
-    side: Side,
-) -> Vec<Vec<u8>> {
+/// Pieces of exactly that size on one side; where a character does not fit
+/// stands a space.
+fn pieces(mappings: &[Mapping], blend: Blend, size: usize, count: usize, side: Side) -> Vec<Vec<&Mapping>> {
+    let space = mappings.iter().find(|m| m.cp == 0x20).expect("every table has a space");
+    let mut characters = characters(mappings, blend.shares);
     let mut piece = || {
-        let mut piece = Vec::new();
-        while piece.len() < size {
-            let next = side(characters.next().expect("without end"));
-            let fits = piece.len() + next.len() <= size;
-            piece.extend(if fits { next } else { vec![b' '] });
+        let (mut piece, mut length) = (Vec::new(), 0);
+        while length < size {
+            let next = characters.next().expect("without end");
+            let next = if length + side(next).len() <= size { next } else { space };
+            length += side(next).len();
+            piece.push(next);
         }
         piece
     };
     (0..count).map(|_| piece()).collect()
+}
+
+fn bytes(pieces: &[Vec<&Mapping>], side: Side) -> Vec<Vec<u8>> {
+    pieces.iter().map(|piece| piece.iter().flat_map(|m| side(m)).collect()).collect()
 }

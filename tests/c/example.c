@@ -1,4 +1,5 @@
-/* Loads a small table and converts three of its bytes to UTF-8. Writes the bytes, the number and the bytes read. */
+/* Loads a small table and converts three of its bytes to UTF-8, to UTF-32 with a byte order mark, and back from
+ * there. Writes for each the bytes, the number and the bytes read. */
 #include <stdio.h>
 #include <string.h>
 
@@ -24,11 +25,22 @@ static const char text[] =
 static uint16_t states[OBOEPOND_STATES];
 static uint32_t codes[OBOEPOND_MAPPINGS], infos[OBOEPOND_MAPPINGS], order[OBOEPOND_MAPPINGS];
 
+/* The table's arguments of a conversion. */
+#define TABLE record, OBOEPOND_RECORD, states, OBOEPOND_STATES, codes, OBOEPOND_MAPPINGS, \
+              infos, OBOEPOND_MAPPINGS, order, OBOEPOND_MAPPINGS
+
+static void show(const uint8_t *output, uint32_t number, const uint64_t *done)
+{
+    for (uint64_t i = 0; i < done[1]; i++)
+        printf("%02X ", output[i]);
+    printf("number %u, read %llu\n", number, (unsigned long long)done[0]);
+}
+
 int main(void)
 {
     static const uint8_t input[] = {0x81, 0x7c, 0x33};
-    uint8_t output[16];
-    uint64_t loaded[1 + OBOEPOND_RECORD], done[2];
+    uint8_t output[4 * sizeof input + 4], back[sizeof output];
+    uint64_t loaded[1 + OBOEPOND_RECORD], done[2], returned[2];
     uint32_t record[OBOEPOND_RECORD];
 
     uint32_t number = oboepond_load((const uint8_t *)text, strlen(text), states, OBOEPOND_STATES,
@@ -41,12 +53,21 @@ int main(void)
     for (size_t i = 0; i < OBOEPOND_RECORD; i++)
         record[i] = (uint32_t)loaded[1 + i];
 
-    number = oboepond_to_utf8(record, OBOEPOND_RECORD, states, OBOEPOND_STATES,
-                              codes, OBOEPOND_MAPPINGS, infos, OBOEPOND_MAPPINGS,
-                              order, OBOEPOND_MAPPINGS, input, sizeof input,
-                              output, sizeof output, 0, done, 2);
-    for (uint64_t i = 0; i < done[1]; i++)
-        printf("%02X ", output[i]);
-    printf("number %u, read %llu\n", number, (unsigned long long)done[0]);
-    return number == OBOEPOND_OK ? 0 : 1;
+    number = oboepond_to_utf8(TABLE, input, sizeof input, output, sizeof output, 0, done, 2);
+    show(output, number, done);
+    if (number != OBOEPOND_OK)
+        return 1;
+
+    number = oboepond_to_unicode(TABLE, input, sizeof input, output, sizeof output,
+                                 OBOEPOND_UTF32, 0, done, 2);
+    show(output, number, done);
+    if (number != OBOEPOND_OK)
+        return 1;
+
+    number = oboepond_from_unicode(TABLE, output, done[1], back, sizeof back,
+                                   OBOEPOND_UTF32, 0, 0, returned, 2);
+    show(back, number, returned);
+    if (number != OBOEPOND_OK)
+        return 1;
+    return returned[1] == sizeof input && memcmp(back, input, sizeof input) == 0 ? 0 : 1;
 }

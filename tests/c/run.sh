@@ -6,5 +6,9 @@ out=$(mktemp -d)
 trap 'rm -rf "$out"' EXIT
 cc -std=c99 -Wall -Wextra -Werror -I ../../include example.c ../../target/staticlib/libcabi.a -o "$out/example"
 "$out/example" > "$out/printed"
-printf 'E2 88 92 33 number 0, read 3\n' | diff - "$out/printed"
+diff - "$out/printed" << 'END'
+E2 88 92 33 number 0, read 3
+00 00 FE FF 00 00 22 12 00 00 00 33 number 0, read 3
+81 7C 33 number 0, read 12
+END
 echo "C example: as expected"

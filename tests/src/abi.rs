@@ -1,5 +1,6 @@
 //! Cases of the C calls alone: slices for record and result that are too short
-//! (70, nothing else happens) or longer than needed, settings other than 1.
+//! (70, nothing else happens) or longer than needed, numbers that are no scheme
+//! (71, nothing else happens), settings other than 1.
 
 use crate::cases::{equal, equal_memory, equal_slices, junk, old_bytes, old_entries, K};
 use crate::oracle::Memory;
@@ -19,6 +20,13 @@ pub const CASES: &[AbiCase] = &[
     ("to UTF-8 with long record and result, any setting but 0", to_long),
     ("from UTF-8 with a short record or result: 70", from_short),
     ("from UTF-8 with long record and result, any setting but 0", from_long),
+    ("to Unicode with a short record or result: 70", to_unicode_short),
+    ("to Unicode with long record and result, any setting but 0", to_unicode_long),
+    ("from Unicode with a short record or result: 70", from_unicode_short),
+    ("from Unicode with long record and result, any setting but 0", from_unicode_long),
+    ("to Unicode with a number that is no scheme: 71", to_no_scheme),
+    ("from Unicode with a number that is no scheme: 71", from_no_scheme),
+    ("70 goes before 71, 71 before 60, 60 before the mark", order_of_refusals),
     ("audit with a short record or result: 70", audit_short),
     ("audit with long record and result, any setting but 0", audit_long),
     ("70 goes before 60", short_before_60),
@@ -166,6 +174,188 @@ fn from_long() -> Result<(), String> {
     Ok(())
 }
 
+/// K's frame 81 7C 33 in each scheme, by the scheme's number.
+const SCHEMES: [(u32, &[u8]); 4] = [
+    (0, b"\xe2\x88\x923"),
+    (1, b"\x00\x00\x22\x12\x00\x00\x003"),
+    (2, b"\x12\x22\x00\x003\x00\x00\x00"),
+    (3, b"\x00\x00\xfe\xff\x00\x00\x22\x12\x00\x00\x003"),
+];
+
+/// Numbers that are no scheme.
+const NO_SCHEMES: [u32; 11] = [4, 5, 7, 8, 32, 255, 256, 257, 1 << 16, 1 << 31, u32::MAX];
+
+fn to_unicode_short() -> Result<(), String> {
+    let (record, memory) = k();
+    for (scheme, chars) in SCHEMES {
+        for n in 0..=7 {
+            for m in 0..=2 {
+                let mut output = old_bytes(15);
+                let mut result = vec![OLD; m];
+                let got = LINKED.to_unicode(&record[..n], &memory, b"\x81\x7c3", &mut output, scheme, 1, &mut result);
+                if n < 7 || m < 2 {
+                    equal("number", got, 70)?;
+                    equal_slices("result", &result, &vec![OLD; m])?;
+                    equal_slices("output", &output, &old_bytes(15))?;
+                } else {
+                    equal("number", got, 0)?;
+                    equal_slices("result", &result, &[3, chars.len() as u64])?;
+                    equal_slices("output", &output[..chars.len()], chars)?;
+                }
+            }
+        }
+    }
+    Ok(())
+}
+
+fn to_unicode_long() -> Result<(), String> {
+    let (record, memory) = k();
+    let long = [&record[..], &[9; 5]].concat();
+    let substitutes: [(u32, &[u8], &[u8]); 4] = [
+        (0, b"", b"\xef\xbf\xbd"),
+        (1, b"", b"\x00\x00\xff\xfd"),
+        (2, b"", b"\xfd\xff\x00\x00"),
+        (3, b"\x00\x00\xfe\xff", b"\x00\x00\xff\xfd"),
+    ];
+    for (scheme, mark, substituted) in substitutes {
+        for substitute in [0, 1, 2, 256, u32::MAX] {
+            let mut output = old_bytes(9);
+            let mut result = vec![OLD; 6];
+            let got = LINKED.to_unicode(&long, &memory, b"\x3f", &mut output, scheme, substitute, &mut result);
+            let (number, read, out) = match substitute {
+                0 => (53, 0, mark.to_vec()),
+                _ => (0, 1, [mark, substituted].concat()),
+            };
+            equal("number", got, number)?;
+            equal_slices("result", &result[..2], &[read, out.len() as u64])?;
+            equal_slices("result behind", &result[2..], &[OLD; 4])?;
+            equal_slices("output", &output[..out.len()], &out)?;
+            equal_slices("output behind", &output[out.len()..], &old_bytes(9)[out.len()..])?;
+        }
+    }
+    Ok(())
+}
+
+fn from_unicode_short() -> Result<(), String> {
+    let (record, memory) = k();
+    for (scheme, chars) in SCHEMES {
+        for n in 0..=7 {
+            for m in 0..=2 {
+                let mut output = old_bytes(9);
+                let mut result = vec![OLD; m];
+                let got = LINKED.from_unicode(&record[..n], &memory, chars, &mut output, scheme, 1, 1, &mut result);
+                if n < 7 || m < 2 {
+                    equal("number", got, 70)?;
+                    equal_slices("result", &result, &vec![OLD; m])?;
+                    equal_slices("output", &output, &old_bytes(9))?;
+                } else {
+                    equal("number", got, 0)?;
+                    equal_slices("result", &result, &[chars.len() as u64, 3])?;
+                    equal_slices("output", &output[..3], b"\x81\x7c3")?;
+                }
+            }
+        }
+    }
+    Ok(())
+}
+
+fn from_unicode_long() -> Result<(), String> {
+    let (record, memory) = k();
+    let long = [&record[..], &[9; 5]].concat();
+    // U+FF0D, behind a mark in plain UTF-32.
+    let inputs: [(u32, &[u8], u64); 5] = [
+        (0, b"\xef\xbc\x8d", 0),
+        (1, b"\x00\x00\xff\x0d", 0),
+        (2, b"\x0d\xff\x00\x00", 0),
+        (3, b"\x00\x00\xfe\xff\x00\x00\xff\x0d", 4),
+        (3, b"\xff\xfe\x00\x00\x0d\xff\x00\x00", 4),
+    ];
+    let on = [1, 2, 256, u32::MAX];
+    for (scheme, input, mark) in inputs {
+        for fallback in [0].into_iter().chain(on) {
+            for substitute in [0].into_iter().chain(on) {
+                let (mut output, mut result) = (old_bytes(9), vec![OLD; 6]);
+                let got =
+                    LINKED.from_unicode(&long, &memory, input, &mut output, scheme, fallback, substitute, &mut result);
+                let all = input.len() as u64;
+                let (number, first, out): (u32, [u64; 2], &[u8]) = match (fallback, substitute) {
+                    (0, 0) => (53, [mark, 0], b""),
+                    (0, _) => (0, [all, 1], b"\x3f"),
+                    _ => (0, [all, 2], b"\x81\x7c"),
+                };
+                equal("number", got, number)?;
+                equal_slices("result", &result[..2], &first)?;
+                equal_slices("result behind", &result[2..], &[OLD; 4])?;
+                equal_slices("output", &output[..out.len()], out)?;
+            }
+        }
+    }
+    Ok(())
+}
+
+/// Nothing happens: result and output keep their values, whatever the table,
+/// the input and the space.
+fn to_no_scheme() -> Result<(), String> {
+    let (record, memory) = k();
+    for scheme in NO_SCHEMES {
+        for (record, memory) in [(record, &memory), ([0; 7], &memory), (record, &Memory::default())] {
+            for (input, space) in [(&b"\x81\x7c3"[..], 15), (b"\x81\x7c3", 3), (b"", 9), (b"", 0), (b"\xff", 9)] {
+                let (mut output, mut result) = (old_bytes(space), [OLD; 4]);
+                let got = LINKED.to_unicode(&record, memory, input, &mut output, scheme, 1, &mut result);
+                equal(&format!("number for {scheme}"), got, 71)?;
+                equal_slices("result", &result, &[OLD; 4])?;
+                equal_slices("output", &output, &old_bytes(space))?;
+            }
+        }
+    }
+    Ok(())
+}
+
+fn from_no_scheme() -> Result<(), String> {
+    let (record, memory) = k();
+    for scheme in NO_SCHEMES {
+        for (record, memory) in [(record, &memory), ([0; 7], &memory), (record, &Memory::default())] {
+            for (input, space) in [(&b"33"[..], 9), (b"\x00\x00\x003", 9), (b"33", 0), (b"", 0), (b"\xff", 9)] {
+                let (mut output, mut result) = (old_bytes(space), [OLD; 4]);
+                let got = LINKED.from_unicode(&record, memory, input, &mut output, scheme, 1, 1, &mut result);
+                equal(&format!("number for {scheme}"), got, 71)?;
+                equal_slices("result", &result, &[OLD; 4])?;
+                equal_slices("output", &output, &old_bytes(space))?;
+            }
+        }
+    }
+    Ok(())
+}
+
+fn order_of_refusals() -> Result<(), String> {
+    let none = Memory::default();
+    for scheme in NO_SCHEMES {
+        for (record, m) in [(&[0; 6][..], 2), (&[0; 7], 1), (&[0; 7], 0), (&[], 2)] {
+            let mut result = vec![OLD; m];
+            equal("to Unicode", LINKED.to_unicode(record, &none, b"3", &mut [], scheme, 0, &mut result), 70)?;
+            equal("from Unicode", LINKED.from_unicode(record, &none, b"3", &mut [], scheme, 0, 0, &mut result), 70)?;
+            equal_slices("result", &result, &vec![OLD; m])?;
+        }
+        equal("to Unicode", LINKED.to_unicode(&[0; 7], &none, b"3", &mut [], scheme, 0, &mut [OLD; 2]), 71)?;
+        equal("from Unicode", LINKED.from_unicode(&[0; 7], &none, b"3", &mut [], scheme, 0, 0, &mut [OLD; 2]), 71)?;
+    }
+    for scheme in 0..4 {
+        for space in [0, 3, 9] {
+            let (mut output, mut result) = (old_bytes(space), [OLD; 2]);
+            let got = LINKED.to_unicode(&[0; 7], &none, b"3", &mut output, scheme, 0, &mut result);
+            equal("to Unicode", got, 60)?;
+            equal_slices("result", &result, &[0, 0])?;
+            result = [OLD; 2];
+            let mark = b"\x00\x00\xfe\xff";
+            let got = LINKED.from_unicode(&[0; 7], &none, mark, &mut output, scheme, 0, 0, &mut result);
+            equal("from Unicode", got, 60)?;
+            equal_slices("result", &result, &[0, 0])?;
+            equal_slices("output", &output, &old_bytes(space))?;
+        }
+    }
+    Ok(())
+}
+
 fn audit_short() -> Result<(), String> {
     let (record, memory) = k();
     for n in 0..=7 {
@@ -215,5 +405,11 @@ fn short_before_60() -> Result<(), String> {
     equal("check", LINKED.check(&[0; 6], &none), 70)?;
     equal("to UTF-8", LINKED.to_utf8(&[0; 7], &none, b"", &mut [], 0, &mut [OLD; 1]), 70)?;
     equal("from UTF-8", LINKED.from_utf8(&[0; 6], &none, b"", &mut [], 0, 0, &mut [OLD; 2]), 70)?;
+    for scheme in 0..4 {
+        let got = LINKED.to_unicode(&[0; 6], &none, b"", &mut [], scheme, 0, &mut [OLD; 2]);
+        equal("to Unicode", got, 70)?;
+        let got = LINKED.from_unicode(&[0; 7], &none, b"", &mut [], scheme, 0, 0, &mut [OLD; 1]);
+        equal("from Unicode", got, 70)?;
+    }
     equal("audit", LINKED.audit(&[0; 7], &none, 0, 9, 9, 0, &mut [], &mut [OLD; 4]), 70)
 }

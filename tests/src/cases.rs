@@ -1,9 +1,9 @@
-//! The hand-written cases: document 01's own, the readings, and for every
-//! number several texts. One list; it runs against the oracle and against the
-//! library alike. Expected values are written by hand, never computed by the
-//! oracle.
+//! The hand-written cases: document 01's own, document 02's, the readings, and
+//! for every number several texts. One list; it runs against the oracle and
+//! against the library alike. Expected values are written by hand, never
+//! computed by the oracle.
 
-use crate::oracle::{Audited, Loaded, Memory, Piped, Record, MAPPING_PLACES, STATE_PLACES};
+use crate::oracle::{Audited, Loaded, Memory, Piped, Record, Scheme, MAPPING_PLACES, STATE_PLACES};
 use crate::subject::Subject;
 
 type Run = Box<dyn Fn(&dyn Subject) -> Result<(), String>>;
@@ -396,11 +396,28 @@ impl List {
         read: u64,
         out: &str,
     ) {
+        self.to_in(Scheme::Utf8, name, table, input, space, set, number, read, out);
+    }
+
+    /// The same to a scheme.
+    #[allow(clippy::too_many_arguments)]
+    fn to_in(
+        &mut self,
+        scheme: Scheme,
+        name: &str,
+        table: impl AsRef<[u8]>,
+        input: &str,
+        space: usize,
+        set: Set,
+        number: u32,
+        read: u64,
+        out: &str,
+    ) {
         let (table, input, out) = (table.as_ref().to_vec(), hex(input), hex(out));
-        self.add(format!("to UTF-8, {name}: {number}"), move |s| {
+        self.add(format!("to {}, {name}: {number}", scheme.name()), move |s| {
             let (record, memory) = is_accepted(s, &table)?;
             let mut output = old_bytes(space);
-            let got = s.to_utf8(&record, &memory, &input, &mut output, set.substitute);
+            let got = s.to_unicode(&record, &memory, &input, &mut output, scheme, set.substitute);
             equal("answer", got, Piped { number, read, written: out.len() as u64 })?;
             let mut want = old_bytes(space);
             want[..out.len()].copy_from_slice(&out);
@@ -408,6 +425,7 @@ impl List {
         });
     }
 
+    /// From UTF-8.
     #[allow(clippy::too_many_arguments)]
     fn from(
         &mut self,
@@ -420,12 +438,29 @@ impl List {
         read: u64,
         out: &str,
     ) {
+        self.from_in(Scheme::Utf8, name, table, input, space, set, number, read, out);
+    }
+
+    /// The same from a scheme.
+    #[allow(clippy::too_many_arguments)]
+    fn from_in(
+        &mut self,
+        scheme: Scheme,
+        name: &str,
+        table: impl AsRef<[u8]>,
+        input: &str,
+        space: usize,
+        set: Set,
+        number: u32,
+        read: u64,
+        out: &str,
+    ) {
         let (table, input, out) = (table.as_ref().to_vec(), hex(input), hex(out));
-        self.add(format!("from UTF-8, {name}: {number}"), move |s| {
+        self.add(format!("from {}, {name}: {number}", scheme.name()), move |s| {
             let (record, memory) = is_accepted(s, &table)?;
             let mut output = old_bytes(space);
             let (f, u) = (set.fallback, set.substitute);
-            let got = s.from_utf8(&record, &memory, &input, &mut output, f, u);
+            let got = s.from_unicode(&record, &memory, &input, &mut output, scheme, f, u);
             equal("answer", got, Piped { number, read, written: out.len() as u64 })?;
             let mut want = old_bytes(space);
             want[..out.len()].copy_from_slice(&out);
@@ -502,12 +537,18 @@ impl List {
             equal("check", s.check(&record, &memory), want)?;
             if want == 60 {
                 let none = Piped { number: 60, read: 0, written: 0 };
-                let mut output = old_bytes(9);
-                let got = s.to_utf8(&record, &memory, b"3", &mut output, true);
-                equal("to UTF-8", got, none)?;
-                let got = s.from_utf8(&record, &memory, b"3", &mut output, true, true);
-                equal("from UTF-8", got, none)?;
-                equal_slices("output", &output, &old_bytes(9))?;
+                for scheme in Scheme::ALL {
+                    // With three places there would be no room for a mark: 60 comes first.
+                    for space in [3, 9] {
+                        let mut output = old_bytes(space);
+                        let got = s.to_unicode(&record, &memory, b"3", &mut output, scheme, true);
+                        equal(&format!("to {}", scheme.name()), got, none)?;
+                        let marked = b"\x00\x00\xfe\xff3";
+                        let got = s.from_unicode(&record, &memory, marked, &mut output, scheme, true, true);
+                        equal(&format!("from {}", scheme.name()), got, none)?;
+                        equal_slices("output", &output, &old_bytes(space))?;
+                    }
+                }
                 let mut entries = old_entries(9);
                 // A position that would be 40: 60 comes first.
                 let got = s.audit(&record, &memory, true, 0x8100_0001, 7, 99, &mut entries);
@@ -537,6 +578,12 @@ pub fn all() -> List {
     forms(&mut l);
     behind_60(&mut l);
     conversions(&mut l);
+    utf32_k(&mut l);
+    utf32_marks(&mut l);
+    utf32_values(&mut l);
+    utf32_spaces(&mut l);
+    utf32_settings(&mut l);
+    utf32_long(&mut l);
     audits(&mut l);
     l
 }
@@ -1260,7 +1307,7 @@ fn sizes(l: &mut List) {
                 if number == 0 {
                     equal("check", s.check(&got.record, &memory), 0)?;
                     let mut out = old_bytes(9);
-                    let got = s.to_utf8(&got.record, &memory, b"\x81\x7c3", &mut out, false);
+                    let got = s.to_unicode(&got.record, &memory, b"\x81\x7c3", &mut out, Scheme::Utf8, false);
                     equal("to UTF-8", got, Piped { number: 0, read: 3, written: 4 })?;
                 }
             }
@@ -1764,7 +1811,7 @@ fn conversions(l: &mut List) {
                 Err(e) if e.error_len().is_none() => (51, e.valid_up_to()),
                 Err(e) => (52, e.valid_up_to()),
             };
-            let got = s.from_utf8(&record, &memory, &input, &mut [0; 16], false, true);
+            let got = s.from_unicode(&record, &memory, &input, &mut [0; 16], Scheme::Utf8, false, true);
             equal(&format!("{input:02x?}"), (got.number, got.read), (number, read as u64))?;
         }
         Ok(())
@@ -1774,12 +1821,482 @@ fn conversions(l: &mut List) {
         let (record, memory) = is_accepted(s, K.as_bytes())?;
         let input = b"\x81\x7c".repeat(2048);
         let mut output = old_bytes(6144 + 7);
-        let got = s.to_utf8(&record, &memory, &input, &mut output, false);
+        let got = s.to_unicode(&record, &memory, &input, &mut output, Scheme::Utf8, false);
         equal("answer", got, Piped { number: 0, read: 4096, written: 6144 })?;
         let mut want = old_bytes(6144 + 7);
         want[..6144].copy_from_slice(&b"\xe2\x88\x92".repeat(2048));
         equal_slices("output", &output, &want)
     });
+}
+
+const BE: Scheme = Scheme::Utf32Be;
+const LE: Scheme = Scheme::Utf32Le;
+/// Plain UTF-32, with a byte order mark.
+const PLAIN: Scheme = Scheme::Utf32;
+
+/// Codes for the bounds of the scalar values, and for what looks like a mark.
+fn bounds() -> Bytes {
+    let lines = ["<U0000> \\x00", "<UD7FF> \\x01", "<UE000> \\x02", "<UFEFF> \\x03", "<UFFFE> \\x04",
+        "<UFFFF> \\x05", "<U10000> \\x06", "<U10FFFF> \\x07", "<U0033> \\x33"];
+    mbcs(1, "\\x3F", &["0-ff.p"], &lines)
+}
+
+/// Document 01's cases 1 to 6 in UTF-32.
+fn utf32_k(l: &mut List) {
+    l.to_in(BE, "case 1", K, "817C33", 15, STRICT, 0, 3, "00002212 00000033");
+    l.to_in(LE, "case 1", K, "817C33", 15, STRICT, 0, 3, "12220000 33000000");
+    l.to_in(PLAIN, "case 1", K, "817C33", 15, STRICT, 0, 3, "0000FEFF 00002212 00000033");
+    l.from_in(BE, "case 2", K, "00002212 00000033", 9, STRICT, 0, 8, "817C33");
+    l.from_in(LE, "case 2", K, "12220000 33000000", 9, STRICT, 0, 8, "817C33");
+    l.from_in(PLAIN, "case 2, no mark", K, "00002212 00000033", 9, STRICT, 0, 8, "817C33");
+    l.from_in(PLAIN, "case 2, mark", K, "0000FEFF 00002212 00000033", 9, STRICT, 0, 12, "817C33");
+    l.from_in(PLAIN, "case 2, little-endian mark", K, "FFFE0000 12220000 33000000", 9, STRICT, 0, 12, "817C33");
+    for (scheme, how, mark, input) in [
+        (BE, "", 0, "0000FF0D 00000033"),
+        (LE, "", 0, "0DFF0000 33000000"),
+        (PLAIN, ", no mark", 0, "0000FF0D 00000033"),
+        (PLAIN, ", mark", 4, "0000FEFF 0000FF0D 00000033"),
+        (PLAIN, ", little-endian mark", 4, "FFFE0000 0DFF0000 33000000"),
+    ] {
+        l.from_in(scheme, &format!("case 3, strict{how}"), K, input, 9, STRICT, 53, mark, "");
+        l.from_in(scheme, &format!("case 3, substitute{how}"), K, input, 9, SUBST, 0, mark + 8, "3F33");
+        l.from_in(scheme, &format!("case 3, fallback{how}"), K, input, 9, FALL, 0, mark + 8, "817C33");
+        l.from_in(scheme, &format!("case 3, both{how}"), K, input, 9, FALL_SUBST, 0, mark + 8, "817C33");
+    }
+    for (scheme, mark) in [(BE, ""), (LE, ""), (PLAIN, "0000FEFF")] {
+        for (set, how) in [(STRICT, "strict"), (SUBST, "substitute")] {
+            l.to_in(scheme, &format!("case 4, 81, {how}"), K, "81", 9, set, 51, 0, mark);
+            l.to_in(scheme, &format!("case 4, 81 2D 33, {how}"), K, "812D33", 9, set, 52, 0, mark);
+            l.to_in(scheme, &format!("case 4, empty, {how}"), K, "", 9, set, 0, 0, mark);
+        }
+        l.to_in(scheme, "case 5, strict", K, "8180", 9, STRICT, 53, 0, mark);
+        l.to_in(scheme, "case 6", K, "817C", 2, STRICT, 50, 0, "");
+    }
+    l.to_in(BE, "case 5, substitute", K, "8180", 9, SUBST, 0, 2, "0000FFFD");
+    l.to_in(LE, "case 5, substitute", K, "8180", 9, SUBST, 0, 2, "FDFF0000");
+    l.to_in(PLAIN, "case 5, substitute", K, "8180", 9, SUBST, 0, 2, "0000FEFF 0000FFFD");
+}
+
+/// The byte order mark, read and written (S1, S2, S3).
+fn utf32_marks(l: &mut List) {
+    let t = bounds();
+    // In plain UTF-32 it chooses the order and is no text.
+    for space in [0, 9] {
+        l.from_in(PLAIN, &format!("the mark alone, space {space}"), K, "0000FEFF", space, STRICT, 0, 4, "");
+        l.from_in(PLAIN, &format!("little-endian mark alone, space {space}"), K, "FFFE0000", space, STRICT, 0, 4, "");
+        l.from_in(PLAIN, &format!("no mark, no text, space {space}"), K, "", space, STRICT, 0, 0, "");
+    }
+    for (how, input, number, read, out) in [
+        ("no mark", "00000033", 0, 4, "33"),
+        ("mark", "0000FEFF 00000033", 0, 8, "33"),
+        ("little-endian mark", "FFFE0000 33000000", 0, 8, "33"),
+        ("no mark, little-endian text", "33000000", 52, 0, ""),
+        ("mark, little-endian text", "0000FEFF 33000000", 52, 4, ""),
+        ("little-endian mark, big-endian text", "FFFE0000 00000033", 52, 4, ""),
+        ("little-endian mark, the second character big-endian", "FFFE0000 33000000 00000033", 52, 8, "33"),
+        ("mark behind a character is text", "00000033 0000FEFF", 0, 8, "333F"),
+        ("little-endian mark behind a character", "00000033 FFFE0000", 52, 4, "33"),
+        ("a second mark is text", "0000FEFF 0000FEFF", 0, 8, "3F"),
+        ("a second little-endian mark is text", "FFFE0000 FFFE0000", 0, 8, "3F"),
+        ("mark, little-endian mark", "0000FEFF FFFE0000", 52, 4, ""),
+        ("little-endian mark, mark", "FFFE0000 0000FEFF", 52, 4, ""),
+        ("a mark of UTF-16", "FEFF0033", 52, 0, ""),
+        ("a little-endian mark of UTF-16", "FFFE3300", 52, 0, ""),
+        ("a mark of UTF-8", "EFBBBF33", 52, 0, ""),
+        ("nearly a mark, 1", "0100FEFF", 52, 0, ""),
+        ("nearly a mark, 2", "0001FEFF", 0, 4, "3F"),
+        ("nearly a mark, 3", "0000FFFF", 0, 4, "3F"),
+        ("nearly a mark, 4", "0000FEFE", 0, 4, "3F"),
+        ("nearly a little-endian mark, 1", "FEFE0000", 52, 0, ""),
+        ("nearly a little-endian mark, 2", "FFFF0000", 52, 0, ""),
+        ("nearly a little-endian mark, 3", "FFFE0100", 52, 0, ""),
+        ("nearly a little-endian mark, 4", "FFFE0001", 52, 0, ""),
+        ("halves of the mark changed", "FEFF0000", 52, 0, ""),
+    ] {
+        l.from_in(PLAIN, how, K, input, 9, SUBST, number, read, out);
+    }
+    l.from_in(PLAIN, "a second mark, strict", K, "0000FEFF 0000FEFF", 9, STRICT, 53, 4, "");
+    l.from_in(PLAIN, "a second little-endian mark, strict", K, "FFFE0000 FFFE0000", 9, STRICT, 53, 4, "");
+    // With a table that has FEFF and FFFE.
+    for (how, input, number, read, out) in [
+        ("the mark alone, mapped", "0000FEFF", 0, 4, ""),
+        ("the little-endian mark alone, mapped", "FFFE0000", 0, 4, ""),
+        ("a second mark, mapped", "0000FEFF 0000FEFF", 0, 8, "03"),
+        ("a third mark, mapped", "0000FEFF 0000FEFF 0000FEFF", 0, 12, "0303"),
+        ("a second little-endian mark, mapped", "FFFE0000 FFFE0000", 0, 8, "03"),
+        ("a second little-endian mark and text", "FFFE0000 FFFE0000 33000000", 0, 12, "0333"),
+        ("mark behind a character, mapped", "00000033 0000FEFF", 0, 8, "3303"),
+        ("FFFE is no mark", "0000FFFE", 0, 4, "04"),
+        ("FFFE behind the little-endian mark", "FFFE0000 FEFF0000", 0, 8, "04"),
+    ] {
+        l.from_in(PLAIN, how, &t, input, 9, STRICT, number, read, out);
+    }
+    // In the other two an initial FEFF is text.
+    for (scheme, mark, other, three) in
+        [(BE, "0000FEFF", "FFFE0000", "00000033"), (LE, "FFFE0000", "0000FEFF", "33000000")]
+    {
+        l.from_in(scheme, "initial FEFF, strict", K, mark, 9, STRICT, 53, 0, "");
+        l.from_in(scheme, "initial FEFF", K, mark, 9, SUBST, 0, 4, "3F");
+        l.from_in(scheme, "initial FEFF, mapped", &t, mark, 9, STRICT, 0, 4, "03");
+        l.from_in(scheme, "initial FEFF and text", &t, &format!("{mark}{three}"), 9, STRICT, 0, 8, "0333");
+        l.from_in(scheme, "two FEFF", &t, &format!("{mark}{mark}"), 9, STRICT, 0, 8, "0303");
+        l.from_in(scheme, "initial FEFF, no space", &t, mark, 0, STRICT, 50, 0, "");
+        l.from_in(scheme, "FEFF in the other order", &t, other, 9, SUBST, 52, 0, "");
+        l.from_in(scheme, "FEFF in the other order and text", &t, &format!("{other}{three}"), 9, SUBST, 52, 0, "");
+        l.from_in(scheme, "FEFF in the other order behind text", &t, &format!("{three}{other}"), 9, SUBST, 52, 4, "33");
+    }
+    // Written: the mark first, and FEFF as text behind it.
+    l.to_in(PLAIN, "FEFF is written behind the mark", &t, "03", 9, STRICT, 0, 1, "0000FEFF 0000FEFF");
+    l.to_in(PLAIN, "FFFE is written behind the mark", &t, "04", 9, STRICT, 0, 1, "0000FEFF 0000FFFE");
+    l.to_in(BE, "FEFF", &t, "0333", 9, STRICT, 0, 2, "0000FEFF 00000033");
+    l.to_in(LE, "FEFF", &t, "0333", 9, STRICT, 0, 2, "FFFE0000 33000000");
+    // A stop at the first character behind the mark: its four bytes are read.
+    for (input, space, set, number) in [
+        ("0000FEFF 0000D800", 9, SUBST, 52),
+        ("0000FEFF 00110000", 9, SUBST, 52),
+        ("0000FEFF 00", 9, SUBST, 51),
+        ("0000FEFF 00000041", 9, STRICT, 53),
+        ("0000FEFF 00000041", 0, STRICT, 53),
+        ("0000FEFF 00000041", 0, SUBST, 50),
+        ("0000FEFF 00000033", 0, STRICT, 50),
+        ("0000FEFF 00002212", 1, STRICT, 50),
+        ("FFFE0000 00D80000", 9, SUBST, 52),
+        ("FFFE0000 00001100", 9, SUBST, 52),
+        ("FFFE0000 33", 9, SUBST, 51),
+        ("FFFE0000 41000000", 9, STRICT, 53),
+        ("FFFE0000 33000000", 0, STRICT, 50),
+    ] {
+        l.from_in(PLAIN, &format!("{input}, space {space}"), K, input, space, set, number, 4, "");
+    }
+}
+
+/// Which values are characters (S3), and bytes left over.
+fn utf32_values(l: &mut List) {
+    let t = bounds();
+    // A character in big-endian order, in little-endian order, its code.
+    for (be, le, code) in [
+        ("00000000", "00000000", "00"),
+        ("00000033", "33000000", "33"),
+        ("0000D7FF", "FFD70000", "01"),
+        ("0000E000", "00E00000", "02"),
+        ("0000FEFF", "FFFE0000", "03"),
+        ("0000FFFE", "FEFF0000", "04"),
+        ("0000FFFF", "FFFF0000", "05"),
+        ("00010000", "00000100", "06"),
+        ("0010FFFF", "FFFF1000", "07"),
+    ] {
+        l.from_in(BE, be, &t, be, 9, STRICT, 0, 4, code);
+        l.from_in(LE, le, &t, le, 9, STRICT, 0, 4, code);
+        l.from_in(PLAIN, &format!("mark, {be}"), &t, &format!("0000FEFF {be}"), 9, STRICT, 0, 8, code);
+        l.from_in(PLAIN, &format!("little-endian mark, {le}"), &t, &format!("FFFE0000 {le}"), 9, STRICT, 0, 8, code);
+        l.to_in(BE, code, &t, code, 9, STRICT, 0, 1, be);
+        l.to_in(LE, code, &t, code, 9, STRICT, 0, 1, le);
+        l.to_in(PLAIN, code, &t, code, 9, STRICT, 0, 1, &format!("0000FEFF {be}"));
+    }
+    // No character: surrogates, and above 10FFFF.
+    for (be, le) in [
+        ("0000D800", "00D80000"),
+        ("0000D83D", "3DD80000"),
+        ("0000DBFF", "FFDB0000"),
+        ("0000DC00", "00DC0000"),
+        ("0000DE00", "00DE0000"),
+        ("0000DFFF", "FFDF0000"),
+        ("00110000", "00001100"),
+        ("0011FFFF", "FFFF1100"),
+        ("00120033", "33001200"),
+        ("00200033", "33002000"),
+        ("00800033", "33008000"),
+        ("00FF0000", "0000FF00"),
+        ("01000000", "00000001"),
+        ("01000033", "33000001"),
+        ("7FFFFFFF", "FFFFFF7F"),
+        ("80000000", "00000080"),
+        ("80000033", "33000080"),
+        ("FFFE0000", "0000FEFF"),
+        ("FFFFFFFF", "FFFFFFFF"),
+    ] {
+        l.from_in(BE, be, &t, be, 9, SUBST, 52, 0, "");
+        l.from_in(LE, le, &t, le, 9, SUBST, 52, 0, "");
+        l.from_in(BE, &format!("33, {be}"), &t, &format!("00000033 {be} 00000033"), 9, SUBST, 52, 4, "33");
+        l.from_in(LE, &format!("33, {le}"), &t, &format!("33000000 {le} 33000000"), 9, SUBST, 52, 4, "33");
+        l.from_in(PLAIN, &format!("33, {be}"), &t, &format!("00000033 {be}"), 9, SUBST, 52, 4, "33");
+        l.from_in(PLAIN, &format!("mark, {be}"), &t, &format!("0000FEFF {be}"), 9, SUBST, 52, 4, "");
+        l.from_in(PLAIN, &format!("little-endian mark, {le}"), &t, &format!("FFFE0000 {le}"), 9, SUBST, 52, 4, "");
+    }
+    // A pair of surrogates is two sequences, each illegal; U+1F600 is the character.
+    l.from_in(BE, "a pair", K, "0000D83D 0000DE00", 9, SUBST, 52, 0, "");
+    l.from_in(LE, "a pair", K, "3DD80000 00DE0000", 9, SUBST, 52, 0, "");
+    l.from_in(PLAIN, "a pair", K, "0000D83D 0000DE00", 9, SUBST, 52, 0, "");
+    l.from_in(PLAIN, "little-endian mark, a pair", K, "FFFE0000 3DD80000 00DE0000", 9, SUBST, 52, 4, "");
+    l.from_in(BE, "33, a pair", K, "00000033 0000D83D 0000DE00", 9, SUBST, 52, 4, "33");
+    l.from_in(BE, "a second half", K, "0000DE00 00000033", 9, SUBST, 52, 0, "");
+    l.from_in(BE, "a pair the other way", K, "0000DE00 0000D83D", 9, SUBST, 52, 0, "");
+    l.from_in(BE, "a pair in four bytes", K, "D83DDE00", 9, SUBST, 52, 0, "");
+    l.from_in(BE, "U+1F600", K, "0001F600", 9, SUBST, 0, 4, "3F");
+    l.from_in(LE, "U+1F600", K, "00F60100", 9, SUBST, 0, 4, "3F");
+    // One to three bytes left over, whatever they are.
+    for rest in ["00", "33", "D8", "FF", "0000", "0033", "00D8", "FFFE", "FEFF", "FFFF", "000000", "000033", "0000D8",
+        "0000FE", "FFFE00", "001100", "330000", "00D800", "EFBBBF", "FFFFFF"] {
+        for (scheme, three) in [(BE, "00000033"), (LE, "33000000"), (PLAIN, "00000033")] {
+            l.from_in(scheme, &format!("{rest} left over"), K, rest, 9, SUBST, 51, 0, "");
+            l.from_in(scheme, &format!("{rest} left over, no space"), K, rest, 0, STRICT, 51, 0, "");
+            l.from_in(scheme, &format!("33, {rest} left over"), K, &format!("{three}{rest}"), 9, STRICT, 51, 4, "33");
+            l.from_in(scheme, &format!("33, {rest} left over, space 1"), K, &format!("{three}{rest}"), 1, STRICT, 51, 4,
+                "33");
+        }
+        for (mark, three) in [("0000FEFF", "00000033"), ("FFFE0000", "33000000")] {
+            l.from_in(PLAIN, &format!("{mark}, {rest} left over"), K, &format!("{mark}{rest}"), 9, SUBST, 51, 4, "");
+            let text = format!("{mark}{three}{rest}");
+            l.from_in(PLAIN, &format!("{mark}, 33, {rest} left over"), K, &text, 9, SUBST, 51, 8, "33");
+        }
+    }
+    // At one place the earlier line wins.
+    for (scheme, three, letter, surrogate) in
+        [(BE, "00000033", "00000041", "0000D800"), (LE, "33000000", "41000000", "00D80000")]
+    {
+        l.from_in(scheme, "52 before 50", K, surrogate, 0, SUBST, 52, 0, "");
+        l.from_in(scheme, "53 before 50", K, letter, 0, STRICT, 53, 0, "");
+        l.from_in(scheme, "50 when substituted", K, letter, 0, SUBST, 50, 0, "");
+        l.from_in(scheme, "50 at the first place", K, &format!("{three}{surrogate}"), 0, STRICT, 50, 0, "");
+        l.from_in(scheme, "52 behind what fits", K, &format!("{three}{surrogate}"), 1, STRICT, 52, 4, "33");
+        l.from_in(scheme, "53 behind what fits", K, &format!("{three}{letter}"), 1, STRICT, 53, 4, "33");
+    }
+    l.add("from UTF-32 agrees with the standard library", |s| {
+        let (record, memory) = is_accepted(s, K.as_bytes())?;
+        let firsts = [0x00u8, 0x01, 0x80, 0xff];
+        let halves = firsts.into_iter().flat_map(|a| [0x00, 0x0f, 0x10, 0x11, 0xff].map(|b| (a, b)));
+        for (a, b) in halves {
+            for c in [0x00, 0xd7, 0xd8, 0xdb, 0xdc, 0xdf, 0xe0, 0xff] {
+                for d in [0x00, 0x33, 0x7f, 0xff] {
+                    let number = if char::from_u32(u32::from_be_bytes([a, b, c, d])).is_some() { 0 } else { 52 };
+                    for (scheme, input) in [(BE, [a, b, c, d]), (LE, [d, c, b, a])] {
+                        let got = s.from_unicode(&record, &memory, &input, &mut [0; 4], scheme, false, true);
+                        equal(&format!("{} {input:02x?}", scheme.name()), got.number, number)?;
+                    }
+                }
+            }
+        }
+        Ok(())
+    });
+    l.add("from UTF-32, every surrogate: 52", |s| {
+        let (record, memory) = is_accepted(s, K.as_bytes())?;
+        for (c, d) in (0xd8..=0xdf).flat_map(|c| (0..=255).map(move |d| (c, d))) {
+            for (scheme, input) in [(BE, [0, 0, c, d]), (LE, [d, c, 0, 0])] {
+                let got = s.from_unicode(&record, &memory, &input, &mut [0; 4], scheme, false, true);
+                equal(&format!("{} {input:02x?}", scheme.name()), got, Piped { number: 52, read: 0, written: 0 })?;
+            }
+        }
+        Ok(())
+    });
+    // Every character in one text, in each order, with and without a mark.
+    for (scheme, mark, big) in [(BE, "", true), (LE, "", false), (PLAIN, "", true), (PLAIN, "0000FEFF", true),
+        (PLAIN, "FFFE0000", false)] {
+        l.add(format!("from {}, every character, mark {mark}: 0", scheme.name()), move |s| {
+            let (record, memory) = is_accepted(s, K.as_bytes())?;
+            let (mut input, mut want) = (hex(mark), Vec::new());
+            for c in '\0'..=char::MAX {
+                let v = c as u32;
+                let bytes = [0, (v >> 16) as u8, (v >> 8) as u8, v as u8];
+                input.extend(if big { bytes } else { [bytes[3], bytes[2], bytes[1], bytes[0]] });
+                want.extend(match v {
+                    0x2d | 0x30 | 0x33 => vec![v as u8],
+                    0x2212 => vec![0x81, 0x7c],
+                    _ => vec![0x3f],
+                });
+            }
+            let mut output = vec![0; want.len()];
+            let got = s.from_unicode(&record, &memory, &input, &mut output, scheme, false, true);
+            let read = 4 * 1_112_064 + hex(mark).len() as u64;
+            equal("answer", got, Piped { number: 0, read, written: 1_112_065 })?;
+            equal_slices("output", &output, &want)
+        });
+    }
+}
+
+/// Every space from 0 to enough; the mark before any byte is looked at (S1).
+fn utf32_spaces(l: &mut List) {
+    for (scheme, first, both) in [(BE, "00002212", "00002212 00000033"), (LE, "12220000", "12220000 33000000")] {
+        for space in 0..=9 {
+            let (number, read, out) = match space {
+                0..=3 => (50, 0, ""),
+                4..=7 => (50, 2, first),
+                _ => (0, 3, both),
+            };
+            l.to_in(scheme, &format!("space {space}"), K, "817C33", space, STRICT, number, read, out);
+        }
+        l.to_in(scheme, "no space, no input", K, "", 0, STRICT, 0, 0, "");
+        l.to_in(scheme, "51 before 50", K, "81", 0, SUBST, 51, 0, "");
+        l.to_in(scheme, "52 before 50", K, "FF", 0, SUBST, 52, 0, "");
+        l.to_in(scheme, "53 before 50", K, "3F", 0, STRICT, 53, 0, "");
+        l.to_in(scheme, "50 when substituted", K, "3F", 3, SUBST, 50, 0, "");
+    }
+    for space in 0..=13 {
+        let (number, read, out) = match space {
+            0..=3 => (50, 0, ""),
+            4..=7 => (50, 0, "0000FEFF"),
+            8..=11 => (50, 2, "0000FEFF 00002212"),
+            _ => (0, 3, "0000FEFF 00002212 00000033"),
+        };
+        l.to_in(PLAIN, &format!("space {space}"), K, "817C33", space, STRICT, number, read, out);
+    }
+    // S1: without room for the mark 50, whatever the input; with it, what the input gives.
+    for (input, how, set, number) in [
+        ("", "empty", STRICT, 0),
+        ("81", "cut short", SUBST, 51),
+        ("81", "cut short, strict", STRICT, 51),
+        ("812D33", "illegal", SUBST, 52),
+        ("FF", "illegal at once", SUBST, 52),
+        ("3F", "unassigned, strict", STRICT, 53),
+        ("8180", "ended by u, strict", STRICT, 53),
+        ("3F", "unassigned, substituted", SUBST, 50),
+        ("33", "assigned", STRICT, 50),
+    ] {
+        for space in 0..=3 {
+            l.to_in(PLAIN, &format!("S1: {how}, space {space}"), K, input, space, set, 50, 0, "");
+        }
+        l.to_in(PLAIN, &format!("S1: {how}, space 4"), K, input, 4, set, number, 0, "0000FEFF");
+    }
+    l.to_in(PLAIN, "mark and one character, space 7", K, "33", 7, STRICT, 50, 0, "0000FEFF");
+    l.to_in(PLAIN, "mark and one character, space 8", K, "33", 8, STRICT, 0, 1, "0000FEFF 00000033");
+    l.to_in(PLAIN, "mark and a substitute, space 7", K, "3F", 7, SUBST, 50, 0, "0000FEFF");
+    l.to_in(PLAIN, "mark and a substitute, space 8", K, "3F", 8, SUBST, 0, 1, "0000FEFF 0000FFFD");
+    l.to_in(PLAIN, "a stop behind what fits", K, "33FF", 8, STRICT, 52, 1, "0000FEFF 00000033");
+    l.to_in(PLAIN, "50 at the first place, 52 at the second", K, "33FF", 7, STRICT, 50, 0, "0000FEFF");
+    for (scheme, mark, input) in [
+        (BE, 0, "00002212 00000033"),
+        (LE, 0, "12220000 33000000"),
+        (PLAIN, 0, "00002212 00000033"),
+        (PLAIN, 4, "0000FEFF 00002212 00000033"),
+        (PLAIN, 4, "FFFE0000 12220000 33000000"),
+    ] {
+        for (space, number, read, out) in [(0, 50, 0, ""), (1, 50, 0, ""), (2, 50, 4, "817C"), (3, 0, 8, "817C33"),
+            (4, 0, 8, "817C33")] {
+            l.from_in(scheme, &format!("{input}, space {space}"), K, input, space, STRICT, number, mark + read, out);
+        }
+    }
+    l.from_in(BE, "no space, no input", K, "", 0, STRICT, 0, 0, "");
+    l.from_in(LE, "no space, no input", K, "", 0, STRICT, 0, 0, "");
+}
+
+/// Substitutes, fallbacks, codes of one to four bytes.
+fn utf32_settings(l: &mut List) {
+    let rows = ["30-3f, 90.u, 81:1", "40, 80.u"];
+    let sub = "<subchar> \\x81\\x40\n<subchar1> \\x3F";
+    let lines = ["<U0030> \\x30 |0", "<U0031> \\x31 |1", "<U0032> \\x3F |2", "<U0033> \\x33 |3",
+        "<U0034> \\x30 |1"];
+    let t = text(1, 2, "MBCS", sub, &rows, &lines);
+    for (input, be, le) in [
+        ("90", "0000001A", "1A000000"),
+        ("35", "0000001A", "1A000000"),
+        ("31", "0000001A", "1A000000"),
+        ("3F", "0000001A", "1A000000"),
+        ("8140", "0000FFFD", "FDFF0000"),
+        ("8180", "0000FFFD", "FDFF0000"),
+    ] {
+        let read = hex(input).len() as u64;
+        l.to_in(BE, input, &t, input, 9, SUBST, 0, read, be);
+        l.to_in(LE, input, &t, input, 9, SUBST, 0, read, le);
+        l.to_in(PLAIN, input, &t, input, 9, SUBST, 0, read, &format!("0000FEFF {be}"));
+        l.to_in(BE, &format!("{input}, strict"), &t, input, 9, STRICT, 53, 0, "");
+        l.to_in(LE, &format!("{input}, strict"), &t, input, 9, STRICT, 53, 0, "");
+        l.to_in(PLAIN, &format!("{input}, strict"), &t, input, 9, STRICT, 53, 0, "0000FEFF");
+    }
+    l.to_in(BE, "a |3 line reads", &t, "33", 9, STRICT, 0, 1, "00000033");
+    for (digit, set, number, out) in [
+        ("30", STRICT, 0, "30"),
+        ("31", STRICT, 53, ""),
+        ("31", SUBST, 0, "8140"),
+        ("31", FALL, 0, "31"),
+        ("31", FALL_SUBST, 0, "31"),
+        ("32", STRICT, 53, ""),
+        ("32", SUBST, 0, "3F"),
+        ("32", FALL, 53, ""),
+        ("32", FALL_SUBST, 0, "3F"),
+        ("33", STRICT, 53, ""),
+        ("33", SUBST, 0, "8140"),
+        ("34", SUBST, 0, "8140"),
+        ("34", FALL, 0, "30"),
+        ("35", SUBST, 0, "8140"),
+    ] {
+        let how = format!("U+00{digit}, fallback {}, substitute {}", set.fallback, set.substitute);
+        let read = |mark| if number == 0 { mark + 4 } else { mark };
+        let (be, le) = (format!("000000{digit}"), format!("{digit}000000"));
+        l.from_in(BE, &how, &t, &be, 9, set, number, read(0), out);
+        l.from_in(LE, &how, &t, &le, 9, set, number, read(0), out);
+        l.from_in(PLAIN, &how, &t, &be, 9, set, number, read(0), out);
+        l.from_in(PLAIN, &format!("mark, {how}"), &t, &format!("0000FEFF{be}"), 9, set, number, read(4), out);
+        let le = format!("FFFE0000{le}");
+        l.from_in(PLAIN, &format!("little-endian mark, {how}"), &t, &le, 9, set, number, read(4), out);
+    }
+    let rows = ["30-3f, 81:1", "40-4f.p, 42:2", "50-5f.p, 52:3", "60-6f.p"];
+    let lines = ["<U0041> \\x31", "<U00E4> \\x81\\x40", "<U20AC> \\x81\\x42\\x50",
+        "<U1F600> \\x81\\x42\\x52\\x60", "<U10FFFF> \\x81\\x42\\x52\\x61 |0"];
+    let four = mbcs(4, "\\x81\\x42\\x52\\x6F", &rows, &lines);
+    let codes = "31 8140 814250 81425260 81425261";
+    let be = "00000041 000000E4 000020AC 0001F600 0010FFFF";
+    let le = "41000000 E4000000 AC200000 00F60100 FFFF1000";
+    let marked = "0000FEFF 00000041 000000E4 000020AC 0001F600 0010FFFF";
+    l.to_in(BE, "one to four bytes", &four, codes, 26, STRICT, 0, 14, be);
+    l.to_in(LE, "one to four bytes", &four, codes, 26, STRICT, 0, 14, le);
+    l.to_in(PLAIN, "one to four bytes", &four, codes, 26, STRICT, 0, 14, marked);
+    l.from_in(BE, "one to four bytes", &four, be, 20, STRICT, 0, 20, codes);
+    l.from_in(LE, "one to four bytes", &four, le, 20, STRICT, 0, 20, codes);
+    l.from_in(PLAIN, "one to four bytes", &four, marked, 20, STRICT, 0, 24, codes);
+    l.from_in(PLAIN, "one to four bytes, no mark", &four, be, 20, STRICT, 0, 20, codes);
+    l.from_in(BE, "subchar of four bytes", &four, "00000042", 4, SUBST, 0, 4, "8142526F");
+    l.from_in(BE, "subchar of four bytes, space 3", &four, "00000042", 3, SUBST, 50, 0, "");
+    l.to_in(BE, "four bytes cut", &four, "814252", 9, SUBST, 51, 0, "");
+    l.to_in(BE, "four bytes broken", &four, "81425299", 9, SUBST, 52, 0, "");
+    l.to_in(BE, "four bytes unassigned", &four, "81425262", 9, SUBST, 0, 4, "0000FFFD");
+}
+
+/// Long inputs, where places of lines are kept at hand: the same answers, line by line.
+fn utf32_long(l: &mut List) {
+    for n in [15u64, 16, 17, 62, 63, 64, 65, 66, 300] {
+        for (scheme, mark, three, minus) in [
+            (BE, "", "00000033", "00002212"),
+            (LE, "", "33000000", "12220000"),
+            (PLAIN, "0000FEFF", "00000033", "00002212"),
+        ] {
+            let before = |one: &str| one.repeat(n as usize - 2);
+            for (code, number, last) in [("817C", 0, minus), ("817D", 0, minus), ("8180", 53, ""), ("812D", 52, "")] {
+                let read = if number == 0 { n } else { n - 2 };
+                let (input, out) = (before("33") + code, mark.to_string() + &before(three) + last);
+                let name = format!("{n} bytes, the last two {code}");
+                l.to_in(scheme, &name, K, &input, 1999, STRICT, number, read, &out);
+            }
+        }
+        for (scheme, mark, three, [minus, wide, none]) in [
+            (BE, "", "00000033", ["00002212", "0000FF0D", "0000FF0E"]),
+            (LE, "", "33000000", ["12220000", "0DFF0000", "0EFF0000"]),
+            (PLAIN, "0000FEFF", "00000033", ["00002212", "0000FF0D", "0000FF0E"]),
+            (PLAIN, "FFFE0000", "33000000", ["12220000", "0DFF0000", "0EFF0000"]),
+        ] {
+            for (point, set, number, last) in [
+                (minus, STRICT, 0, "817C"),
+                (wide, STRICT, 53, ""),
+                (wide, SUBST, 0, "3F"),
+                (wide, FALL, 0, "817C"),
+                (none, SUBST, 0, "3F"),
+            ] {
+                let read = hex(mark).len() as u64 + if number == 0 { 4 * n } else { 4 * (n - 1) };
+                let before = |one: &str| one.repeat(n as usize - 1);
+                let (input, out) = (mark.to_string() + &before(three) + point, before("33") + last);
+                let name = format!("{n} characters, mark {mark}, the last {point}");
+                l.from_in(scheme, &name, K, &input, 999, set, number, read, &out);
+            }
+        }
+    }
+    for (scheme, mark, one) in [(BE, "", "00002212"), (LE, "", "12220000"), (PLAIN, "0000FEFF", "00002212")] {
+        let (codes, chars) = ("817C".repeat(2048), mark.to_string() + &one.repeat(2048));
+        let bytes = 4 * 2048 + hex(mark).len();
+        l.to_in(scheme, "4,096 bytes", K, &codes, bytes + 7, STRICT, 0, 4096, &chars);
+        let fits = &chars[..2 * bytes - 8];
+        l.to_in(scheme, "4,096 bytes, a place too few", K, &codes, bytes - 1, STRICT, 50, 4094, fits);
+        l.from_in(scheme, "4,096 bytes", K, &chars, 4096 + 7, STRICT, 0, bytes as u64, &codes);
+        let stop = bytes as u64 - 4;
+        l.from_in(scheme, "4,096 bytes, a place too few", K, &chars, 4095, STRICT, 50, stop, &codes[..2 * 4094]);
+    }
 }
 
 /// The audit beyond document 01's cases (R30, R31 among them).

@@ -1,7 +1,7 @@
 //! Seeded generators: tables, their texts in many dresses, damaged and hostile
-//! texts, memories, frames, UTF-8.
+//! texts, memories, frames, UTF-8 and UTF-32.
 
-use crate::oracle::{self, complete, form, Cell, Kind, Line, Memory, Record, Row, Table};
+use crate::oracle::{self, complete, form, Cell, Kind, Line, Memory, Record, Row, Scheme, Table};
 use std::collections::HashSet;
 
 // ---------------------------------------------------------------------------
@@ -173,7 +173,7 @@ pub fn random_cp(rng: &mut Rng, above_ffff: bool) -> u32 {
             1 => rng.below(0x800),
             2 => rng.range(0x2200, 0x2220),
             3 => rng.below(0x1_0000),
-            4 => *rng.pick(&[0, 0x1a, 0x7f, 0x80, 0x7ff, 0x800, 0xd7ff, 0xe000, 0xfffd, 0xffff]),
+            4 => *rng.pick(&[0, 0x1a, 0x7f, 0x80, 0x7ff, 0x800, 0xd7ff, 0xe000, 0xfeff, 0xfffd, 0xfffe, 0xffff]),
             5 => rng.range(0xe000, 0xe020),
             6 => rng.range(0x1_0000, 0x10_ffff),
             _ => *rng.pick(&[0x1_0000, 0x1_ffff, 0xf_ffff, 0x10_0000, 0x10_fffe, 0x10_ffff]),
@@ -1745,8 +1745,73 @@ pub fn scatter(rng: &mut Rng) -> Vec<Change> {
 }
 
 // ---------------------------------------------------------------------------
-// Frames and UTF-8
+// Frames, UTF-8 and UTF-32
 // ---------------------------------------------------------------------------
+
+/// The bytes of a value without a mark, made apart from the oracle. In UTF-8
+/// the value must be a character.
+pub fn character(scheme: Scheme, value: u32) -> Vec<u8> {
+    let byte = |n: u32| (value >> (8 * n)) as u8;
+    match scheme {
+        Scheme::Utf8 => char::from_u32(value).expect("a character").to_string().into_bytes(),
+        Scheme::Utf32Be | Scheme::Utf32 => vec![byte(3), byte(2), byte(1), byte(0)],
+        Scheme::Utf32Le => vec![byte(0), byte(1), byte(2), byte(3)],
+    }
+}
+
+/// The mark of big-endian text, and of little-endian text.
+pub const MARK: [u8; 4] = [0x00, 0x00, 0xfe, 0xff];
+const LITTLE_MARK: [u8; 4] = [0xff, 0xfe, 0x00, 0x00];
+
+/// A front for a text, and how its characters have to stand behind it.
+pub fn front(rng: &mut Rng, scheme: Scheme) -> (Vec<u8>, Scheme) {
+    match (scheme, rng.below(3)) {
+        (Scheme::Utf32, 0) => (MARK.to_vec(), Scheme::Utf32Be),
+        (Scheme::Utf32, 1) => (LITTLE_MARK.to_vec(), Scheme::Utf32Le),
+        (Scheme::Utf32, _) => (Vec::new(), Scheme::Utf32Be),
+        _ => (Vec::new(), scheme),
+    }
+}
+
+/// Bytes at which a frame must stop, and the number; 53 is for the strict
+/// setting. None at times.
+pub fn stop_in_frame(rng: &mut Rng, t: &Table) -> Option<(Vec<u8>, u32)> {
+    let mut code = random_code(rng, &t.rows)?;
+    match rng.below(6) {
+        0 if code.len() > 1 => {
+            code.truncate(rng.range(1, code.len() - 1));
+            Some((code, 51))
+        }
+        1 => {
+            let illegal: Vec<u8> = (0..=255).filter(|&b| t.rows[0][b as usize] == Cell::Illegal).collect();
+            (!illegal.is_empty()).then(|| (vec![*rng.pick(&illegal), rng.byte()], 52))
+        }
+        2 => {
+            let read = t.lines.iter().any(|l| oracle::is_read(l.kind) && l.code == code);
+            (!read).then_some((code, 53))
+        }
+        _ => None,
+    }
+}
+
+/// The same for a text in UTF-8, UTF-32BE or UTF-32LE.
+pub fn stop_in_text(rng: &mut Rng, t: &Table, way: Scheme) -> Option<(Vec<u8>, u32)> {
+    match rng.below(6) {
+        0 => {
+            let mut bytes = character(way, random_cp(rng, true));
+            bytes.pop();
+            (!bytes.is_empty()).then_some((bytes, 51))
+        }
+        1 if way == Scheme::Utf8 => Some((vec![rng.range(0xf5, 0xff) as u8], 52)),
+        1 => Some((character(way, no_character(rng)), 52)),
+        2 => {
+            let cp = random_cp(rng, true);
+            let written = t.lines.iter().any(|l| matches!(l.kind, Kind::Both | Kind::FromUnicode) && l.cp == cp);
+            (!written).then(|| (character(way, cp), 53))
+        }
+        _ => None,
+    }
+}
 
 /// Codes of lines and other complete codes; half of the time with damage, at
 /// the end mostly.
@@ -1841,21 +1906,76 @@ fn damaged_utf8(rng: &mut Rng) -> Vec<u8> {
     }
 }
 
+/// A value that is no character: a surrogate, or above 10FFFF.
+fn no_character(rng: &mut Rng) -> u32 {
+    match rng.below(5) {
+        0 => *rng.pick(&[0xd800, 0xdbff, 0xdc00, 0xdfff]),
+        1 => rng.range(0xd800, 0xdfff) as u32,
+        2 => *rng.pick(&[0x11_0000, 0x1f_ffff, 0x20_0041, 0xff_ffff, 0x100_0041, 0x7fff_ffff, 0x8000_0041, u32::MAX]),
+        3 => (rng.next() as u32).max(0x11_0000),
+        _ => random_cp(rng, true) | 1 << rng.range(21, 31),
+    }
+}
+
+fn other_order(way: Scheme) -> Scheme {
+    if way == Scheme::Utf32Le {
+        Scheme::Utf32Be
+    } else {
+        Scheme::Utf32Le
+    }
+}
+
+/// UTF-32 damaged in every way.
+fn damaged_utf32(rng: &mut Rng, way: Scheme) -> Vec<u8> {
+    match rng.below(8) {
+        0 | 1 => character(way, no_character(rng)),
+        2 => {
+            // A pair of surrogates.
+            let (high, low) = (rng.range(0xd800, 0xdbff) as u32, rng.range(0xdc00, 0xdfff) as u32);
+            [character(way, high), character(way, low)].concat()
+        }
+        3 => character(other_order(way), random_cp(rng, true)),
+        4 => rng.pick(&[MARK, LITTLE_MARK]).to_vec(),
+        5 => (0..rng.range(1, 5)).map(|_| rng.byte()).collect(),
+        6 => {
+            // One byte changed.
+            let mut bytes = character(way, random_cp(rng, true));
+            bytes[rng.below(4)] = rng.byte();
+            bytes
+        }
+        _ => {
+            // A byte too few or too many: what is behind it is moved.
+            let mut bytes = character(way, random_cp(rng, true));
+            match rng.one_in(2) {
+                true => bytes.truncate(rng.range(1, 3)),
+                false => bytes.insert(rng.below(5), rng.byte()),
+            }
+            bytes
+        }
+    }
+}
+
 /// Characters of lines and others; half of the time with damage, at the end
-/// mostly.
-pub fn random_utf8(rng: &mut Rng, t: &Table, items: usize) -> Vec<u8> {
-    let mut out = Vec::new();
+/// mostly. Marks of either order stand at the front of any scheme at times.
+pub fn random_text(rng: &mut Rng, t: &Table, scheme: Scheme, items: usize) -> Vec<u8> {
+    let (mut out, mut way) = front(rng, scheme);
+    if scheme != Scheme::Utf8 && rng.one_in(8) {
+        out.extend(rng.pick(&[MARK, LITTLE_MARK]));
+    }
+    if scheme != Scheme::Utf8 && rng.one_in(16) {
+        way = other_order(way);
+    }
     let some_chars = |rng: &mut Rng, out: &mut Vec<u8>, n: usize| {
         for _ in 0..n {
             let of_line = !t.lines.is_empty() && !rng.one_in(6);
             let cp = if of_line { rng.pick(&t.lines).cp } else { random_cp(rng, true) };
-            out.extend(char::from_u32(cp).expect("T6").to_string().bytes());
+            out.extend(character(way, if rng.one_in(30) { 0xfeff } else { cp }));
         }
     };
     let n = rng.below(items + 1);
     some_chars(rng, &mut out, n);
     if rng.one_in(2) {
-        let mut bytes = damaged_utf8(rng);
+        let mut bytes = if scheme == Scheme::Utf8 { damaged_utf8(rng) } else { damaged_utf32(rng, way) };
         if rng.one_in(2) {
             let n = rng.range(1, bytes.len().max(1));
             bytes.truncate(n);

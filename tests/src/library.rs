@@ -1,6 +1,7 @@
 //! The library as a test subject.
 
-use crate::oracle::{Audited, Loaded, Memory, Piped, Record};
+use crate::cases::{equal, equal_slices};
+use crate::oracle::{Audited, Loaded, Memory, Piped, Record, Scheme};
 use crate::raw::LINKED;
 use crate::subject::Subject;
 
@@ -17,6 +18,34 @@ fn checked<const N: usize>(result: &[u64]) -> [u64; N] {
 
 fn narrow(value: u64, what: &str) -> u32 {
     u32::try_from(value).unwrap_or_else(|_| panic!("{what} does not fit 32 bits: {value}"))
+}
+
+/// The scheme's number in the C header.
+fn number_of(scheme: Scheme) -> u32 {
+    match scheme {
+        Scheme::Utf8 => 0,
+        Scheme::Utf32Be => 1,
+        Scheme::Utf32Le => 2,
+        Scheme::Utf32 => 3,
+    }
+}
+
+/// The answer of a conversion, given the slice for its result.
+fn piped(call: impl FnOnce(&mut [u64]) -> u32) -> Piped {
+    let mut result = [CANARY; 5];
+    let number = call(&mut result);
+    let [read, written] = checked(&result);
+    Piped { number, read, written }
+}
+
+/// Answer and output of the call over the scheme and of the call for UTF-8
+/// alone, which must do the same.
+fn same_for_utf8(got: (Piped, &[u8]), alone: (Piped, &[u8])) {
+    let answers = equal("answer over the scheme and for UTF-8 alone", got.0, alone.0);
+    let outputs = equal_slices("output over the scheme and for UTF-8 alone", got.1, alone.1);
+    if let Err(why) = answers.and(outputs) {
+        panic!("{why}");
+    }
 }
 
 impl Subject for Library {
@@ -39,26 +68,45 @@ impl Subject for Library {
         LINKED.check(record, memory)
     }
 
-    fn to_utf8(&self, record: &Record, memory: &Memory, input: &[u8], output: &mut [u8], substitute: bool) -> Piped {
-        let mut result = [CANARY; 5];
-        let number = LINKED.to_utf8(record, memory, input, output, substitute as u32, &mut result);
-        let [read, written] = checked(&result);
-        Piped { number, read, written }
-    }
-
-    fn from_utf8(
+    fn to_unicode(
         &self,
         record: &Record,
         memory: &Memory,
         input: &[u8],
         output: &mut [u8],
+        scheme: Scheme,
+        substitute: bool,
+    ) -> Piped {
+        let (number, substitute) = (number_of(scheme), substitute as u32);
+        let mut other = output.to_vec();
+        let got = piped(|result| LINKED.to_unicode(record, memory, input, output, number, substitute, result));
+        if scheme == Scheme::Utf8 {
+            let alone = piped(|result| LINKED.to_utf8(record, memory, input, &mut other, substitute, result));
+            same_for_utf8((got, output), (alone, &other));
+        }
+        got
+    }
+
+    fn from_unicode(
+        &self,
+        record: &Record,
+        memory: &Memory,
+        input: &[u8],
+        output: &mut [u8],
+        scheme: Scheme,
         fallback: bool,
         substitute: bool,
     ) -> Piped {
-        let mut result = [CANARY; 5];
-        let number = LINKED.from_utf8(record, memory, input, output, fallback as u32, substitute as u32, &mut result);
-        let [read, written] = checked(&result);
-        Piped { number, read, written }
+        let (number, fallback, substitute) = (number_of(scheme), fallback as u32, substitute as u32);
+        let mut other = output.to_vec();
+        let got =
+            piped(|result| LINKED.from_unicode(record, memory, input, output, number, fallback, substitute, result));
+        if scheme == Scheme::Utf8 {
+            let alone =
+                piped(|result| LINKED.from_utf8(record, memory, input, &mut other, fallback, substitute, result));
+            same_for_utf8((got, output), (alone, &other));
+        }
+        got
     }
 
     fn audit(

@@ -1,6 +1,6 @@
-//! Document 01 in plain Rust, written from the document alone: the second
-//! opinion that the library is compared with. It may be slow; it has to be
-//! easy to hold against the document, rule by rule and number by number.
+//! Documents 01 and 02 in plain Rust, written from the documents alone: the
+//! second opinion that the library is compared with. It may be slow; it has to
+//! be easy to hold against the documents, rule by rule and number by number.
 //!
 //! The text is first turned into its meaning, a `Table`. All rules (T1 to T9),
 //! both pipes and the audit are functions of that meaning. `form` turns a
@@ -1065,20 +1065,91 @@ fn cut_utf8(input: &[u8]) -> Sequence<u32> {
     Sequence::Whole(cp, length)
 }
 
-fn utf8(cp: u32) -> Vec<u8> {
-    let c = char::from_u32(cp).expect("T6");
-    c.to_string().into_bytes()
+/// How a Unicode text stands in bytes: RFC 3629, or one of the three schemes of
+/// source document 002.
+#[derive(Clone, Copy, PartialEq, Eq, Debug)]
+pub enum Scheme {
+    Utf8,
+    Utf32Be,
+    Utf32Le,
+    /// Plain UTF-32: a byte order mark chooses the order.
+    Utf32,
 }
 
-/// Goes through the input; `one` gives the first sequence's length and output,
-/// or the number that stops there (51, 52, 53).
-fn pipe(input: &[u8], output: &mut [u8], one: impl Fn(&[u8]) -> Result<(usize, Vec<u8>), u32>) -> Piped {
-    let (mut read, mut written) = (0, 0);
-    let number = loop {
-        if read == input.len() {
-            break 0;
+impl Scheme {
+    pub const ALL: [Scheme; 4] = [Scheme::Utf8, Scheme::Utf32Be, Scheme::Utf32Le, Scheme::Utf32];
+
+    pub fn name(self) -> &'static str {
+        match self {
+            Scheme::Utf8 => "UTF-8",
+            Scheme::Utf32Be => "UTF-32BE",
+            Scheme::Utf32Le => "UTF-32LE",
+            Scheme::Utf32 => "UTF-32",
         }
-        match one(&input[read..]) {
+    }
+}
+
+/// One sequence of UTF-32. A number over 10FFFF, and each half of a surrogate pair,
+/// are illegal; fewer than four bytes are cut short, whatever they are.
+fn cut_utf32(input: &[u8], value_of: fn([u8; 4]) -> u32) -> Sequence<u32> {
+    let Some(four) = input.first_chunk() else {
+        return Sequence::CutShort;
+    };
+    match value_of(*four) {
+        value @ (0..=0xd7ff | 0xe000..=0x10_ffff) => Sequence::Whole(value, 4),
+        _ => Sequence::Illegal,
+    }
+}
+
+/// One sequence of a text. Plain UTF-32 is big-endian where no mark says
+/// otherwise.
+fn cut_character(scheme: Scheme, input: &[u8]) -> Sequence<u32> {
+    match scheme {
+        Scheme::Utf8 => cut_utf8(input),
+        Scheme::Utf32Be | Scheme::Utf32 => cut_utf32(input, u32::from_be_bytes),
+        Scheme::Utf32Le => cut_utf32(input, u32::from_le_bytes),
+    }
+}
+
+/// The bytes of a code point. Plain UTF-32 is written big-endian.
+fn character(scheme: Scheme, cp: u32) -> Vec<u8> {
+    let c = char::from_u32(cp).expect("T6");
+    match scheme {
+        Scheme::Utf8 => c.to_string().into_bytes(),
+        Scheme::Utf32Be | Scheme::Utf32 => cp.to_be_bytes().to_vec(),
+        Scheme::Utf32Le => cp.to_le_bytes().to_vec(),
+    }
+}
+
+/// What is written before any byte of the input is looked at.
+fn mark_to_write(scheme: Scheme) -> Vec<u8> {
+    match scheme {
+        Scheme::Utf32 => vec![0x00, 0x00, 0xfe, 0xff],
+        _ => Vec::new(),
+    }
+}
+
+/// The scheme behind the front of a text, and how many bytes its mark has. In
+/// all but plain UTF-32 an initial FEFF is text.
+fn mark_read(scheme: Scheme, input: &[u8]) -> (Scheme, usize) {
+    match (scheme, input) {
+        (Scheme::Utf32, [0x00, 0x00, 0xfe, 0xff, ..]) => (Scheme::Utf32Be, 4),
+        (Scheme::Utf32, [0xff, 0xfe, 0x00, 0x00, ..]) => (Scheme::Utf32Le, 4),
+        _ => (scheme, 0),
+    }
+}
+
+/// Bytes read and what they give.
+type Step = (usize, Vec<u8>);
+
+/// Goes through the input. `mark` is the first step, no sequence of the text;
+/// `one` gives the step of the first sequence in what is left, or the number
+/// that stops there (51, 52, 53).
+fn pipe(input: &[u8], output: &mut [u8], mark: Step, one: impl Fn(&[u8]) -> Result<Step, u32>) -> Piped {
+    let (mut read, mut written) = (0, 0);
+    let mut step = Ok(mark);
+    let number = loop {
+        match step {
             Err(number) => break number,
             Ok((length, out)) => {
                 if out.len() > output.len() - written {
@@ -1089,31 +1160,52 @@ fn pipe(input: &[u8], output: &mut [u8], one: impl Fn(&[u8]) -> Result<(usize, V
                 written += out.len();
             }
         }
+        if read == input.len() {
+            break 0;
+        }
+        step = one(&input[read..]);
     };
     Piped { number, read: read as u64, written: written as u64 }
 }
 
-pub fn to_utf8(t: &Table, input: &[u8], output: &mut [u8], substitute: bool) -> Piped {
-    to_utf8_by(t, &Lines::of(t), input, output, substitute)
+pub fn to_unicode(t: &Table, input: &[u8], output: &mut [u8], scheme: Scheme, substitute: bool) -> Piped {
+    to_unicode_by(t, &Lines::of(t), input, output, scheme, substitute)
 }
 
 /// The same with the table's lines at hand, for many frames.
-pub fn to_utf8_by(t: &Table, lines: &Lines, input: &[u8], output: &mut [u8], substitute: bool) -> Piped {
-    pipe(input, output, |rest| match cut_code(&t.rows, rest) {
+pub fn to_unicode_by(
+    t: &Table,
+    lines: &Lines,
+    input: &[u8],
+    output: &mut [u8],
+    scheme: Scheme,
+    substitute: bool,
+) -> Piped {
+    let mark = (0, mark_to_write(scheme));
+    pipe(input, output, mark, |rest| match cut_code(&t.rows, rest) {
         Sequence::CutShort => Err(51),
         Sequence::Illegal => Err(52),
         Sequence::Whole((), length) => match lines.reads(&rest[..length]) {
-            Some(cp) => Ok((length, utf8(cp))),
+            Some(cp) => Ok((length, character(scheme, cp))),
             None if !substitute => Err(53),
-            None if length == 1 && t.subchar1.is_some() => Ok((length, utf8(0x1a))),
-            None => Ok((length, utf8(0xfffd))),
+            None if length == 1 && t.subchar1.is_some() => Ok((length, character(scheme, 0x1a))),
+            None => Ok((length, character(scheme, 0xfffd))),
         },
     })
 }
 
-pub fn from_utf8(t: &Table, input: &[u8], output: &mut [u8], fallback: bool, substitute: bool) -> Piped {
+pub fn from_unicode(
+    t: &Table,
+    input: &[u8],
+    output: &mut [u8],
+    scheme: Scheme,
+    fallback: bool,
+    substitute: bool,
+) -> Piped {
     let lines = Lines::of(t);
-    pipe(input, output, |rest| match cut_utf8(rest) {
+    let (scheme, length) = mark_read(scheme, input);
+    let mark = (length, Vec::new());
+    pipe(input, output, mark, |rest| match cut_character(scheme, rest) {
         Sequence::CutShort => Err(51),
         Sequence::Illegal => Err(52),
         Sequence::Whole(cp, length) => match lines.writes(cp, fallback) {

@@ -2,7 +2,7 @@
 //! for a table file and an input. Built on the oracle; it reads all before it
 //! writes anything.
 
-use crate::oracle::{self, Codes, Lines, Table};
+use crate::oracle::{self, Codes, Lines, Scheme, Table};
 use std::fs::File;
 use std::io::{self, Read, Write};
 use std::path::Path;
@@ -71,7 +71,7 @@ fn digit(b: u8) -> Option<u8> {
 /// Number, bytes read, output.
 fn converted(t: &Table, lines: &Lines, frame: &[u8]) -> String {
     let mut space = vec![0; 4 * frame.len()];
-    let got = oracle::to_utf8_by(t, lines, frame, &mut space, true);
+    let got = oracle::to_unicode_by(t, lines, frame, &mut space, Scheme::Utf8, true);
     format!("{} {} {}\n", got.number, got.read, hex(&space[..got.written as usize]))
 }
 

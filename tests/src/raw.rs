@@ -8,13 +8,14 @@ macro_rules! calls {
             $(fn $name($($arguments)*) -> u32;)*
         }
 
-        /// The calls of one build of the library, and of nothing else.
+        /// The calls of one build of the library, and of nothing else. An older
+        /// build may lack some.
         #[derive(Clone, Copy)]
         pub struct Calls {
-            $(pub $call: unsafe extern "C" fn($($arguments)*) -> u32,)*
+            $(pub $call: Option<unsafe extern "C" fn($($arguments)*) -> u32>,)*
         }
 
-        pub const LINKED: Calls = Calls { $($call: $name,)* };
+        pub const LINKED: Calls = Calls { $($call: Some($name),)* };
     };
 }
 
@@ -56,6 +57,33 @@ calls! {
         order: *const u32, order_len: usize,
         input: *const u8, input_len: usize,
         output: *mut u8, output_len: usize,
+        fallback: u32,
+        substitute: u32,
+        result: *mut u64, result_len: usize,
+    );
+
+    to_unicode = oboepond_to_unicode(
+        record: *const u32, record_len: usize,
+        states: *const u16, states_len: usize,
+        codes: *const u32, codes_len: usize,
+        infos: *const u32, infos_len: usize,
+        order: *const u32, order_len: usize,
+        input: *const u8, input_len: usize,
+        output: *mut u8, output_len: usize,
+        scheme: u32,
+        substitute: u32,
+        result: *mut u64, result_len: usize,
+    );
+
+    from_unicode = oboepond_from_unicode(
+        record: *const u32, record_len: usize,
+        states: *const u16, states_len: usize,
+        codes: *const u32, codes_len: usize,
+        infos: *const u32, infos_len: usize,
+        order: *const u32, order_len: usize,
+        input: *const u8, input_len: usize,
+        output: *mut u8, output_len: usize,
+        scheme: u32,
         fallback: u32,
         substitute: u32,
         result: *mut u64, result_len: usize,

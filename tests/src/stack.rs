@@ -13,6 +13,8 @@ pub const CASES: &[AbiCase] = &[
     ("check: at most 2 KiB of stack", check),
     ("to UTF-8: at most 36 KiB of stack", to_utf8),
     ("from UTF-8: at most 36 KiB of stack", from_utf8),
+    ("to Unicode: at most 36 KiB of stack", to_unicode),
+    ("from Unicode: at most 36 KiB of stack", from_unicode),
     ("audit: at most 3 KiB of stack", audit),
 ];
 
@@ -122,6 +124,42 @@ fn from_utf8() -> Result<(), String> {
                 LINKED.from_utf8(record, memory, &input, &mut output, 1, 1, &mut result);
             })?;
             equal("read", result[0], n as u64)?;
+        }
+        Ok(())
+    })
+}
+
+fn to_unicode() -> Result<(), String> {
+    over_tables(|record, memory| {
+        for (scheme, n) in (0..4).flat_map(|scheme| [0, 1, 63, 64, 5000].map(|n| (scheme, n))) {
+            let (input, mut output, mut result) = (vec![0x3f; n], vec![0; 4 * n + 4], [0; 2]);
+            at_most(&format!("to Unicode, scheme {scheme}"), 36 * KIB, &mut || {
+                LINKED.to_unicode(record, memory, &input, &mut output, scheme, 1, &mut result);
+            })?;
+            equal("read", result[0], n as u64)?;
+        }
+        Ok(())
+    })
+}
+
+fn from_unicode() -> Result<(), String> {
+    over_tables(|record, memory| {
+        // A scheme, what stands in front, and a character; the last has a mark.
+        let texts: [(u32, &[u8], &[u8]); 5] = [
+            (0, b"", b"C"),
+            (1, b"", b"\x00\x00\x00C"),
+            (2, b"", b"C\x00\x00\x00"),
+            (3, b"", b"\x00\x00\x00C"),
+            (3, b"\xff\xfe\x00\x00", b"C\x00\x00\x00"),
+        ];
+        let lengths = [0, 1, 15, 16, 63, 64, 5000];
+        for ((scheme, front, character), n) in texts.into_iter().flat_map(|text| lengths.map(|n| (text, n))) {
+            let input = [front, &character.repeat(n)].concat();
+            let (mut output, mut result) = (vec![0; 4 * n], [0; 2]);
+            at_most(&format!("from Unicode, scheme {scheme}"), 36 * KIB, &mut || {
+                LINKED.from_unicode(record, memory, &input, &mut output, scheme, 1, 1, &mut result);
+            })?;
+            equal("read", result[0], input.len() as u64)?;
         }
         Ok(())
     })

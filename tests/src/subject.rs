@@ -1,6 +1,6 @@
 //! What is tested: the oracle and the library behind one set of calls.
 
-use crate::oracle::{self, Audited, Loaded, Memory, Piped, Record};
+use crate::oracle::{self, Audited, Loaded, Memory, Piped, Record, Scheme};
 
 pub trait Subject {
     fn name(&self) -> &'static str;
@@ -10,14 +10,24 @@ pub trait Subject {
     /// 0 or 60.
     fn check(&self, record: &Record, memory: &Memory) -> u32;
 
-    fn to_utf8(&self, record: &Record, memory: &Memory, input: &[u8], output: &mut [u8], substitute: bool) -> Piped;
-
-    fn from_utf8(
+    fn to_unicode(
         &self,
         record: &Record,
         memory: &Memory,
         input: &[u8],
         output: &mut [u8],
+        scheme: Scheme,
+        substitute: bool,
+    ) -> Piped;
+
+    #[allow(clippy::too_many_arguments)]
+    fn from_unicode(
+        &self,
+        record: &Record,
+        memory: &Memory,
+        input: &[u8],
+        output: &mut [u8],
+        scheme: Scheme,
         fallback: bool,
         substitute: bool,
     ) -> Piped;
@@ -56,24 +66,33 @@ impl Subject for Oracle {
         }
     }
 
-    fn to_utf8(&self, record: &Record, memory: &Memory, input: &[u8], output: &mut [u8], substitute: bool) -> Piped {
-        match oracle::meaning_of(record, memory) {
-            Some(table) => oracle::to_utf8(&table, input, output, substitute),
-            None => PIPE_REFUSED,
-        }
-    }
-
-    fn from_utf8(
+    fn to_unicode(
         &self,
         record: &Record,
         memory: &Memory,
         input: &[u8],
         output: &mut [u8],
+        scheme: Scheme,
+        substitute: bool,
+    ) -> Piped {
+        match oracle::meaning_of(record, memory) {
+            Some(table) => oracle::to_unicode(&table, input, output, scheme, substitute),
+            None => PIPE_REFUSED,
+        }
+    }
+
+    fn from_unicode(
+        &self,
+        record: &Record,
+        memory: &Memory,
+        input: &[u8],
+        output: &mut [u8],
+        scheme: Scheme,
         fallback: bool,
         substitute: bool,
     ) -> Piped {
         match oracle::meaning_of(record, memory) {
-            Some(table) => oracle::from_utf8(&table, input, output, fallback, substitute),
+            Some(table) => oracle::from_unicode(&table, input, output, scheme, fallback, substitute),
             None => PIPE_REFUSED,
         }
     }

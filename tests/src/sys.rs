@@ -3,13 +3,15 @@
 use crate::memory::Memory;
 use crate::raw::Calls;
 
+const HAS_IT: &str = "this build has the call";
+
 /// A call with the record and the lent memory in front of the rest.
 macro_rules! with_table {
     ($calls:ident.$call:ident, $record:ident, $m:ident $(, $rest:expr)*) => {
         // SAFETY: every pointer comes with the length of its own slice, and the
         // mutable slices do not overlap.
         unsafe {
-            ($calls.$call)(
+            ($calls.$call.expect(HAS_IT))(
                 $record.as_ptr(),
                 $record.len(),
                 $m.states.as_ptr(),
@@ -31,7 +33,7 @@ impl Calls {
     pub fn load(&self, text: &[u8], m: &mut Memory, result: &mut [u64]) -> u32 {
         // SAFETY: as above.
         unsafe {
-            (self.load)(
+            (self.load.expect(HAS_IT))(
                 text.as_ptr(),
                 text.len(),
                 m.states.as_mut_ptr(),
@@ -93,6 +95,58 @@ impl Calls {
             input.len(),
             output.as_mut_ptr(),
             output.len(),
+            fallback,
+            substitute,
+            result.as_mut_ptr(),
+            result.len()
+        )
+    }
+
+    pub fn to_unicode(
+        &self,
+        record: &[u32],
+        m: &Memory,
+        input: &[u8],
+        output: &mut [u8],
+        scheme: u32,
+        substitute: u32,
+        result: &mut [u64],
+    ) -> u32 {
+        with_table!(
+            self.to_unicode,
+            record,
+            m,
+            input.as_ptr(),
+            input.len(),
+            output.as_mut_ptr(),
+            output.len(),
+            scheme,
+            substitute,
+            result.as_mut_ptr(),
+            result.len()
+        )
+    }
+
+    pub fn from_unicode(
+        &self,
+        record: &[u32],
+        m: &Memory,
+        input: &[u8],
+        output: &mut [u8],
+        scheme: u32,
+        fallback: u32,
+        substitute: u32,
+        result: &mut [u64],
+    ) -> u32 {
+        with_table!(
+            self.from_unicode,
+            record,
+            m,
+            input.as_ptr(),
+            input.len(),
+            output.as_mut_ptr(),
+            output.len(),
+            scheme,
             fallback,
             substitute,
             result.as_mut_ptr(),

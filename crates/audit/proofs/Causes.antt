@@ -1,5 +1,5 @@
 -- What each cause says. 0: the code round-trips; for a complete code, the two conversions give it back.
-use Prim.Native.Nat.{ℕ, suc, _≤_}
+use Prim.Native.Nat.{ℕ, suc, _+_, _≤_}
 use native.Mathlib.Omega.{arith}
 use mathlib.Core.Path.{_≡_, refl, ap, _∙_}
 use mathlib.Core.Bool.{Bool, true, false}
@@ -7,11 +7,13 @@ use mathlib.Core.Logic.{_↔_, Iff·trans}
 use mathlib.Core.Option.{Option, none, some}
 use mathlib.Core.List.{List}
 use lib.Dec.{eqb}
+use lib.ListN.{length}
 use borrow.Author.Tests.{eq-eqb, ne-eqb}
 use Rattle.lists.specs.Pick.{pick}
 use Rattle.lists.proofs.Laws.{¬true⇒false}
 use Rattle.table.specs.Limits.{Limits, limits}
 use Rattle.table.specs.States.{endKind, isCode}
+use Rattle.unicode.specs.declared.scheme.Scheme.{Scheme}
 use Rattle.table.specs.Codes.{AllByte}
 use Rattle.table.specs.Meaning.{Line, Table, stepsOf, reader}
 use Rattle.table.specs.Rules.{Keeps}
@@ -19,9 +21,10 @@ use Rattle.table.specs.Slices.{Slices}
 use Rattle.table.specs.Load.{read, accepted, loadedBy, given, leftIn}
 use Rattle.lists.proofs.Strings.{same⇒≡, same-refl}
 use Rattle.convert.specs.Step.{Written, code, subchar1, nothing, writes}
+use Rattle.convert.specs.Convert.{markOf}
 use Rattle.convert.specs.Claims.{RoundTrips}
 use Rattle.convert.specs.loops.Laws.{RoundTripsByRuns, RoundTripsByCalls}
-use Rattle.convert.proofs.RoundTrips.{round-trip-runs}
+use Rattle.convert.proofs.SchemeText.{round-trip-runs}
 use Rattle.convert.proofs.LoadedText.{round-trip-loaded}
 use Rattle.audit.specs.Audit.{backBy, backOf, causeBy, causeOf}
 use Rattle.lists.specs.Strings.{same}
@@ -103,15 +106,15 @@ module _ (t : Table) (fallback : Bool) (c : List ℕ) where
         go subchar1 e = refl
         go nothing e = refl
 
--- a complete code has cause 0 exactly when the strict conversions by the table, with space for any one code, give it back
-pub round-trip-exactly : (lim : Limits) (t : Table) → Keeps lim t → (fallback : Bool) (c : List ℕ) → AllByte c → isCode (stepsOf t) 0 c ≡ true
-    → (room room′ : ℕ) → 4 ≤ room → 4 ≤ room′ → (causeOf t fallback c ≡ 0) ↔ RoundTripsByRuns t fallback c room room′
-round-trip-exactly lim t keeps fallback c bytes whole room room′ long long′ =
-    Iff·trans (cause-round-trip t fallback c) (round-trip-runs lim t keeps fallback c bytes whole room room′ long long′)
+-- a complete code has cause 0 exactly when the strict conversions by the table, in any scheme, with space for any one code, give it back
+pub round-trip-exactly : (scheme : Scheme) (lim : Limits) (t : Table) → Keeps lim t → (fallback : Bool) (c : List ℕ) → AllByte c → isCode (stepsOf t) 0 c ≡ true
+    → (room room′ : ℕ) → length (markOf scheme) + 4 ≤ room → 4 ≤ room′ → (causeOf t fallback c ≡ 0) ↔ RoundTripsByRuns scheme t fallback c room room′
+round-trip-exactly scheme lim t keeps fallback c bytes whole room room′ long long′ =
+    Iff·trans (cause-round-trip t fallback c) (round-trip-runs scheme lim t keeps fallback c bytes whole room room′ long long′)
 
 -- and exactly when what the two functions promise gives it back, on what a load of an accepted text gave and left
-pub round-trip-promised : (text : List ℕ) (old : Slices) (t : Table) → given limits text old ≡ read (accepted t)
-    → (fallback : Bool) (c : List ℕ) → AllByte c → isCode (stepsOf t) 0 c ≡ true → (room room′ : ℕ) → 4 ≤ room → 4 ≤ room′
-    → (causeOf t fallback c ≡ 0) ↔ RoundTripsByCalls (loadedBy (given limits text old) .table) (leftIn limits (given limits text old) old) fallback c room room′
-round-trip-promised text old t e fallback c bytes whole room room′ long long′ =
-    Iff·trans (cause-round-trip t fallback c) (round-trip-loaded text old t e fallback c bytes whole room room′ long long′)
+pub round-trip-promised : (scheme : Scheme) (text : List ℕ) (old : Slices) (t : Table) → given limits text old ≡ read (accepted t)
+    → (fallback : Bool) (c : List ℕ) → AllByte c → isCode (stepsOf t) 0 c ≡ true → (room room′ : ℕ) → length (markOf scheme) + 4 ≤ room → 4 ≤ room′
+    → (causeOf t fallback c ≡ 0) ↔ RoundTripsByCalls scheme (loadedBy (given limits text old) .table) (leftIn limits (given limits text old) old) fallback c room room′
+round-trip-promised scheme text old t e fallback c bytes whole room room′ long long′ =
+    Iff·trans (cause-round-trip t fallback c) (round-trip-loaded text old t e scheme fallback c bytes whole room room′ long long′)

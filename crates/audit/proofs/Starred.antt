@@ -7,7 +7,8 @@ use lib.ListN.{length}
 use Rattle.lists.specs.Order.{firstOf, filtered}
 use Rattle.lists.specs.Paging.{pageFrom}
 use Rattle.lists.proofs.Order.{All-⇒, map-≡⁻}
-use Rattle.unicode.specs.Utf8.{decodeOne, encodeOf}
+use Rattle.unicode.specs.Utf8.{isScalar, decodeOne, encodeOf}
+use Rattle.unicode.specs.Utf32.{encodeIn, decodeIn, markAt}
 use Rattle.table.specs.States.{cutFrom, endKind}
 use Rattle.table.specs.Codes.{scan, codesFrom, packed, unpacked, codeOf}
 use Rattle.lists.specs.Strings.{before, same}
@@ -21,17 +22,17 @@ use Rattle.table.specs.TableK.{kText, tableK}
 use Rattle.table.proofs.GivenText.{given-lent}
 use Rattle.table.proofs.TextCases.{k-loaded}
 use Rattle.convert.specs.Run.{Run}
-use Rattle.convert.specs.Step.{utf8, toSequence, toStep, writes, fromStep}
+use Rattle.convert.specs.Step.{toSequence, toStep, writes, fromStep}
 use Rattle.convert.specs.Convert.{toRun, fromRun}
 use Rattle.convert.proofs.LoadedText.{to-loaded, from-loaded}
 use Rattle.audit.specs.Audit.{Answer, causeOf, pageableCodes, isPosition, auditOn}
-use Rattle.audit.specs.Cases.{Question, toUtf8, fromUtf8, audit, Seen, converts, calls, ask, seenAs, Case, cases, kLoaded, Holds, Starred}
+use Rattle.audit.specs.Cases.{Question, toUnicode, fromUnicode, audit, Seen, converts, calls, ask, seenAs, Case, cases, kLoaded, Holds, Starred}
 use Rattle.audit.proofs.LoadedTable.{audit-loaded}
 
 -- a call on the table itself, with space for n
 abbrev askTable : Table → ℕ → List ℕ → Question → Seen
-askTable t n out (toUtf8 settings input) = converts (toRun utf8 t settings input n) out
-askTable t n out (fromUtf8 settings input) = converts (fromRun utf8 t settings input n) out
+askTable t n out (toUnicode e settings input) = converts (toRun e t settings input n) out
+askTable t n out (fromUnicode e settings input) = converts (fromRun e t settings input n) out
 askTable t n out (audit fallback position allowance) = calls (auditOn t fallback (codeOf position) allowance n) out
 
 -- THE LOAD: K's text in slices that are long enough
@@ -54,15 +55,16 @@ abbrev expected : Case → List ℕ → Seen
 expected c out = seenAs (c .reply) out
 
 k-cases : map computed cases ≡ map expected cases
-unfolding cases tableK firstOf pageFrom decodeOne encodeOf stepsOn cutFrom endKind scan codesFrom before filtered packed unpacked flat same padded toSequence toStep writes fromStep causeOf pageableCodes isPosition auditOn
+unfolding cases tableK firstOf pageFrom isScalar decodeOne encodeOf encodeIn decodeIn markAt stepsOn cutFrom endKind
+    scan codesFrom before filtered packed unpacked flat same padded toSequence toStep writes fromStep causeOf pageableCodes isPosition auditOn
 k-cases = refl
 
 -- and on what the load left
 module _ (old : Slices) (e : given limits kText old ≡ read (accepted tableK)) where
   asked : (out : List ℕ) (q : Question) → ask old out q ≡ askTable tableK (length out) out q
   unfolding ask
-  asked out (toUtf8 settings input) = ap (λ (r : Run). converts r out) (to-loaded kText old tableK e utf8 settings input (length out))
-  asked out (fromUtf8 settings input) = ap (λ (r : Run). converts r out) (from-loaded kText old tableK e utf8 settings input (length out))
+  asked out (toUnicode scheme settings input) = ap (λ (r : Run). converts r out) (to-loaded kText old tableK e scheme settings input (length out))
+  asked out (fromUnicode scheme settings input) = ap (λ (r : Run). converts r out) (from-loaded kText old tableK e scheme settings input (length out))
   asked out (audit fallback position allowance) =
       ap (λ (a : Answer). calls a out) (audit-loaded kText old tableK e fallback (codeOf position) allowance (length out))
 

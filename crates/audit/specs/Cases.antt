@@ -1,6 +1,6 @@
--- The starred cases (document 01, 'Table K, and what it gives', 1 to 8): what the load of K's own text answers, and
--- what calls on the record and memory that it left answer, in the words of the functions' own promises, whatever the
--- lent slices held before.
+-- The starred cases (document 01, 'Table K, and what it gives', 1 to 8), and 1, 2 and 6 in UTF-32: what the load of
+-- K's own text answers, and what calls on the record and memory that it left answer, in the words of the functions'
+-- own promises, whatever the lent slices held before.
 -- Contents: a question and its reply; what a caller sees; the cases, in their order; `Starred`. Proved in
 -- proofs/Starred.antt.
 use Prim.Native.Nat.{ℕ}
@@ -9,6 +9,8 @@ use mathlib.Core.Bool.{Bool, true, false}
 use mathlib.Core.List.{List, [], _∷_, _++_, map}
 use lib.ListN.{length, drop}
 use Rattle.lists.specs.Order.{All}
+use Rattle.unicode.specs.declared.scheme.Scheme.{Scheme}
+use Rattle.unicode.specs.declared.scheme.Scheme.the-variants.{Utf8, Utf32Be, Utf32Le, Utf32}
 use Rattle.table.specs.Limits.{limits}
 use Rattle.table.specs.Codes.{codeOf}
 use Rattle.table.specs.Slices.{Slices, Lent}
@@ -19,7 +21,7 @@ use Rattle.table.specs.declared.valid.Record.{Record}
 use Rattle.table.specs.declared.load.Answer.the-variants.{Accepted}
 use Rattle.table.specs.declared.load.Loaded.{Loaded}
 use Rattle.convert.specs.Run.{Run, convertedOf, putOut, endNumber}
-use Rattle.convert.specs.Step.{utf8, strict, substituting}
+use Rattle.convert.specs.Step.{strict, substituting}
 use Rattle.convert.specs.Convert.{toTested, fromTested}
 use Rattle.convert.specs.declared.Settings.{Settings}
 use Rattle.audit.specs.Audit.{Finding, Answer, endingNumber, auditTested, entryNumber, auditedOf, spaceAfter}
@@ -31,10 +33,10 @@ off = false
 abbrev on : Bool
 on = true
 
--- a call: to UTF-8 (settings, input), from UTF-8 (settings, input), of the audit (fallback, position, allowance)
+-- a call: to Unicode and from it (scheme, settings, input), of the audit (fallback, position, allowance)
 pub data Question : Type 0 where
-  toUtf8 : Settings → List ℕ → Question
-  fromUtf8 : Settings → List ℕ → Question
+  toUnicode : Scheme → Settings → List ℕ → Question
+  fromUnicode : Scheme → Settings → List ℕ → Question
   audit : Bool → List ℕ → ℕ → Question
 
 -- what is expected: a conversion's number, bytes read and output; an audit call's number, entries, count, position, and
@@ -61,10 +63,10 @@ calls a out =
 
 -- on a record and slices
 abbrev pub askOn : Record → Slices → List ℕ → Question → Seen
-askOn rec m out (toUtf8 settings input) =
-    converts (toTested utf8 limits rec m settings input (length out)) out
-askOn rec m out (fromUtf8 settings input) =
-    converts (fromTested utf8 limits rec m settings input (length out)) out
+askOn rec m out (toUnicode e settings input) =
+    converts (toTested e limits rec m settings input (length out)) out
+askOn rec m out (fromUnicode e settings input) =
+    converts (fromTested e limits rec m settings input (length out)) out
 askOn rec m out (audit fallback position allowance) =
     calls (auditTested limits rec m fallback (codeOf position) allowance (length out)) out
 
@@ -109,16 +111,23 @@ withFallback = strict on ∷ substituting on ∷ []
 abbrev offOn : List Bool
 offOn = off ∷ on ∷ []
 
+abbrev toIn : Scheme → List Settings → List ℕ → ℕ → Reply → List Case
+toIn e under input space reply = map (λ settings. the (toUnicode e settings input) space reply) under
+
+abbrev fromIn : Scheme → List Settings → List ℕ → ℕ → Reply → List Case
+fromIn e under input space reply = map (λ settings. the (fromUnicode e settings input) space reply) under
+
+-- a case that names no scheme is of UTF-8
 abbrev to : List Settings → List ℕ → ℕ → Reply → List Case
-to under input space reply = map (λ settings. the (toUtf8 settings input) space reply) under
+to = toIn Utf8
 
 abbrev from : List Settings → List ℕ → ℕ → Reply → List Case
-from under input space reply = map (λ settings. the (fromUtf8 settings input) space reply) under
+from = fromIn Utf8
 
 abbrev auditing : List ℕ → ℕ → ℕ → Reply → List Case
 auditing position allowance space reply = map (λ fallback. the (audit fallback position allowance) space reply) offOn
 
--- cases 1 to 8, in their order
+-- cases 1 to 8, in their order, and three of them in UTF-32
 unfoldable pub cases : List Case
 cases =
     -- 1: 81 7C 33 gives E2 88 92 33, read 3
@@ -143,6 +152,25 @@ cases =
     -- 8: allowance 0 at the beginning: count 0, not finished. Position 81: 40
     ++ auditing [] 0 16 (audited 0 [] 0 [] false)
     ++ auditing (0x81 ∷ []) 16 16 (audited 40 [] 0 (0x81 ∷ []) false)
+    -- 1 in UTF-32: the mark, 2212, 33; in the little-endian scheme no mark
+    ++ toIn Utf32 every (0x81 ∷ 0x7c ∷ 0x33 ∷ []) 16
+    (converted 0 3 (0 ∷ 0 ∷ 0xfe ∷ 0xff ∷ 0 ∷ 0 ∷ 0x22 ∷ 0x12 ∷ 0 ∷ 0 ∷ 0 ∷ 0x33 ∷ []))
+    ++ toIn Utf32Le every (0x81 ∷ 0x7c ∷ 0x33 ∷ []) 16
+    (converted 0 3 (0x12 ∷ 0x22 ∷ 0 ∷ 0 ∷ 0x33 ∷ 0 ∷ 0 ∷ 0 ∷ []))
+    -- 2 in UTF-32: behind a mark in either order; FF FE 00 00 is no mark in the big-endian scheme: 52
+    ++ fromIn Utf32 every (0 ∷ 0 ∷ 0xfe ∷ 0xff ∷ 0 ∷ 0 ∷ 0x22 ∷ 0x12 ∷ 0 ∷ 0 ∷ 0 ∷ 0x33 ∷ []) 16
+    (converted 0 12 (0x81 ∷ 0x7c ∷ 0x33 ∷ []))
+    ++ fromIn Utf32 every (0xff ∷ 0xfe ∷ 0 ∷ 0 ∷ 0x12 ∷ 0x22 ∷ 0 ∷ 0 ∷ 0x33 ∷ 0 ∷ 0 ∷ 0 ∷ []) 16
+    (converted 0 12 (0x81 ∷ 0x7c ∷ 0x33 ∷ []))
+    ++ fromIn Utf32Be every (0xff ∷ 0xfe ∷ 0 ∷ 0 ∷ []) 16 (converted 52 0 [])
+    -- and three bytes left over: 51; a pair of surrogates: 52; FEFF in front, text in the big-endian scheme: 53, strict
+    ++ fromIn Utf32Be every (0 ∷ 0 ∷ 0x22 ∷ []) 16 (converted 51 0 [])
+    ++ fromIn Utf32Be every (0 ∷ 0 ∷ 0xd8 ∷ 0x3d ∷ 0 ∷ 0 ∷ 0xde ∷ 0 ∷ []) 16 (converted 52 0 [])
+    ++ fromIn Utf32Be strictly (0 ∷ 0 ∷ 0xfe ∷ 0xff ∷ []) 16 (converted 53 0 [])
+    -- 6 in UTF-32: no space for the mark is 50, of an empty text too
+    ++ toIn Utf32 every (0x81 ∷ 0x7c ∷ []) 3 (converted 50 0 [])
+    ++ toIn Utf32 every [] 3 (converted 50 0 [])
+    ++ toIn Utf32 every [] 4 (converted 0 0 (0 ∷ 0 ∷ 0xfe ∷ 0xff ∷ []))
 
 -- K's text is accepted, line 0, with this record
 abbrev pub kLoaded : Loaded

@@ -1,6 +1,6 @@
 -- What the functions exported to C answer, and what they leave in the lent slices, by document 01's own functions: the
--- record as seven numbers, settings as numbers, each answer as a number and a slice of results. 70 is the number for a
--- slice that is too short.
+-- record as seven numbers, settings and the scheme as numbers, each answer as a number and a slice of results. 70 is
+-- the number for a slice that is too short, 71 for a number that is no scheme.
 use Prim.Native.Nat.{ℕ}
 use mathlib.Core.Bool.{Bool, not}
 use mathlib.Core.List.{List, [], _∷_}
@@ -8,18 +8,21 @@ use lib.Dec.{eqb, ltb}
 use lib.ListN.{length, getD}
 use Rattle.lists.specs.Pick.{if_then_else_}
 use Rattle.lists.specs.Place.{placed}
+use Rattle.unicode.specs.declared.scheme.Scheme.{Scheme}
+use Rattle.unicode.specs.declared.scheme.Scheme.the-variants as scheme
 use Rattle.table.specs.Limits.{limits}
 use Rattle.table.specs.Slices.{Slices}
 use Rattle.table.specs.Valid.{valid}
 use Rattle.table.specs.declared.valid.Record.{Record}
 use Rattle.table.specs.declared.load.Loaded.{Loaded}
 use Rattle.table.specs.declared.states.Code.{Code}
-use Rattle.convert.specs.Run.{Run}
-use Rattle.convert.specs.Step.{utf8}
+use Rattle.convert.specs.Run.{Run, putOut, endNumber}
 use Rattle.convert.specs.Convert.{toTested, fromTested}
 use Rattle.convert.specs.declared.Settings.{Settings}
 use Rattle.audit.specs.Audit.{auditTested, Answer as AuditAnswer}
 use Rattle.audit.specs.declared.Audited.{Audited}
+use Rattle.cabi.specs.declared.Named.{Named}
+use Rattle.cabi.specs.declared.Named.the-variants as named
 
 -- the record that seven numbers stand for
 abbrev pub recordIn : List ℕ → Record
@@ -64,19 +67,55 @@ unfoldable pub checkNumber : List ℕ → Slices → ℕ
 checkNumber rec m =
     ifFewer 7 rec 70 (if valid limits (recordIn rec) m then 0 else 60)
 
+-- ## The conversions
+
+-- the scheme that a number stands for
+unfoldable pub schemeIn : ℕ → Named
+schemeIn n =
+    if eqb n 0 then named.Of scheme.Utf8 else
+    if eqb n 1 then named.Of scheme.Utf32Be else
+    if eqb n 2 then named.Of scheme.Utf32Le else
+    if eqb n 3 then named.Of scheme.Utf32 else
+    named.None
+
 -- what a conversion hands back beside its number: bytes read, bytes written
 abbrev pub runNumbers : Run → List ℕ
 runNumbers r = r .read ∷ length (r .bytes) ∷ []
 
--- oboepond_to_utf8's conversion, with space for `room` bytes
-abbrev pub toExported : List ℕ → Slices → ℕ → List ℕ → ℕ → Run
-toExported rec m substitute input room =
-    toTested utf8 limits (recordIn rec) m (settingsIn 0 substitute) input room
+-- its number, and the output and the result slice afterwards
+pub record Answered : Type 0 where
+  pub number : ℕ
+  pub output : List ℕ
+  pub result : List ℕ
 
--- oboepond_from_utf8's conversion
-abbrev pub fromExported : List ℕ → Slices → ℕ → ℕ → List ℕ → ℕ → Run
-fromExported rec m fallback substitute input room =
-    fromTested utf8 limits (recordIn rec) m (settingsIn fallback substitute) input room
+-- nothing is written
+abbrev pub unanswered : ℕ → List ℕ → List ℕ → Answered
+unanswered n output result = record { number = n; output = output; result = result }
+
+abbrev pub answeredBy : Run → List ℕ → List ℕ → Answered
+answeredBy run output result =
+    record { number = endNumber (run .end); output = putOut run output; result = withNumbers (runNumbers run) result }
+
+abbrev pub inScheme : Named → (Scheme → Run) → List ℕ → List ℕ → Answered
+inScheme named.None run output result = unanswered 71 output result
+inScheme (named.Of e) run output result = answeredBy (run e) output result
+
+-- either conversion, by record, scheme, and the output and the result slice before: 70, then 71, then the run
+unfoldable pub answered : List ℕ → ℕ → (Scheme → Run) → List ℕ → List ℕ → Answered
+answered rec n run output result =
+    ifShort 2 rec result (unanswered 70 output result) (inScheme (schemeIn n) run output result)
+
+-- oboepond_to_unicode's run, with space for `room` bytes
+abbrev pub toExported : List ℕ → Slices → ℕ → List ℕ → ℕ → Scheme → Run
+toExported rec m substitute input room e =
+    toTested e limits (recordIn rec) m (settingsIn 0 substitute) input room
+
+-- oboepond_from_unicode's run
+abbrev pub fromExported : List ℕ → Slices → ℕ → ℕ → List ℕ → ℕ → Scheme → Run
+fromExported rec m fallback substitute input room e =
+    fromTested e limits (recordIn rec) m (settingsIn fallback substitute) input room
+
+-- ## The audit
 
 -- what an audit call hands back beside its number: entries written, the position's bits and length, 1 where finished,
 -- count

@@ -6,6 +6,7 @@ use convert::Settings;
 use table::load::Loaded;
 use table::states::Code;
 use table::valid::Record;
+use unicode::scheme::Scheme;
 ghost use mathlib.Core.Path.{_≡_};
 ghost use mathlib.Core.List.{[], _∷_};
 ghost use Prim.Native.Nat.{_≤_};
@@ -15,13 +16,25 @@ ghost use Rattle.table.specs.Limits.{limits};
 ghost use Rattle.table.specs.Slices.{slices};
 ghost use Rattle.table.specs.Numbers.{answerNumber};
 ghost use Rattle.table.specs.Load.{givenNumber, loadedBy, given, leftIn};
-ghost use Rattle.convert.specs.Run.{putOut, endNumber};
+ghost use Rattle.convert.specs.Run.{endNumber};
 ghost use Rattle.audit.specs.Audit.{auditedOf, spaceAfter, endingNumber};
 ghost use Rattle.cabi.specs.Exported.{recordIn, ifFewer, ifShort, withNumbers, loadedNumbers, checkNumber};
-ghost use Rattle.cabi.specs.Exported.{runNumbers, toExported, fromExported, auditedNumbers, auditExported};
+ghost use Rattle.cabi.specs.Exported.{schemeIn, answered, toExported, fromExported};
+ghost use Rattle.cabi.specs.Exported.{auditedNumbers, auditExported};
 
-// This layer's own number: a record or a result slice is too short, and nothing else happened.
+// This layer's own numbers: a record or a result slice is too short; a number is no scheme. Nothing else happened then.
 const SHORT: u32 = 70;
+
+const NO_SCHEME: u32 = 71;
+
+// UTF-8 as a number.
+const UTF8: u32 = 0;
+
+// The scheme that a number names.
+enum Named {
+    Of(Scheme),
+    None,
+}
 
 // The numbers of a record.
 const RECORD: usize = 7;
@@ -140,6 +153,118 @@ pub extern "C" fn oboepond_check(
     60
 }
 
+// The scheme that a number names.
+fn scheme_in(number: u32) -> Named
+    ensures { λ r. ⌜ r ≡ schemeIn number ⌝ }
+{
+    match number {
+        0 => Named::Of(Scheme::Utf8),
+        1 => Named::Of(Scheme::Utf32Be),
+        2 => Named::Of(Scheme::Utf32Le),
+        3 => Named::Of(Scheme::Utf32),
+        _ => Named::None,
+    }
+}
+
+// From a table's bytes to Unicode.
+#[no_mangle]
+pub extern "C" fn oboepond_to_unicode(
+    rec: &[u32],
+    states: &[u16],
+    codes: &[u32],
+    infos: &[u32],
+    order: &[u32],
+    input: &[u8],
+    output: &mut [u8],
+    scheme: u32,
+    substitute: u32,
+    result: &mut [u64],
+) -> u32
+    ensures { λ r. ⌜ (let m =
+        slices (now (states .entry)) (now (codes .entry)) (now (infos .entry)) (now (order .entry)) in
+        let old = now (output .entry) in
+        let run = toExported (now (rec .entry)) m substitute (now (input .entry)) (length old) in
+        let a = answered (now (rec .entry)) scheme run old (now (result .entry)) in
+        (r ≡ a .number) × (now (output .exit) ≡ a .output) × (now (result .exit) ≡ a .result)) ⌝ }
+{
+    if rec.len() < RECORD {
+        return SHORT;
+    }
+    if result.len() < 2 {
+        return SHORT;
+    }
+    let Named::Of(chosen) = scheme_in(scheme) else {
+        return NO_SCHEME;
+    };
+    let held = record_in(rec);
+    let settings = Settings {
+        fallback: false,
+        substitute: substitute != 0,
+    };
+    let done = convert::to_unicode(
+        held,
+        states,
+        codes,
+        infos,
+        order,
+        input,
+        output,
+        settings,
+        chosen,
+    );
+    put_done(done, result)
+}
+
+// From Unicode to a table's bytes.
+#[no_mangle]
+pub extern "C" fn oboepond_from_unicode(
+    rec: &[u32],
+    states: &[u16],
+    codes: &[u32],
+    infos: &[u32],
+    order: &[u32],
+    input: &[u8],
+    output: &mut [u8],
+    scheme: u32,
+    fallback: u32,
+    substitute: u32,
+    result: &mut [u64],
+) -> u32
+    ensures { λ r. ⌜ (let m =
+        slices (now (states .entry)) (now (codes .entry)) (now (infos .entry)) (now (order .entry)) in
+        let old = now (output .entry) in
+        let run = fromExported (now (rec .entry)) m fallback substitute (now (input .entry)) (length old) in
+        let a = answered (now (rec .entry)) scheme run old (now (result .entry)) in
+        (r ≡ a .number) × (now (output .exit) ≡ a .output) × (now (result .exit) ≡ a .result)) ⌝ }
+{
+    if rec.len() < RECORD {
+        return SHORT;
+    }
+    if result.len() < 2 {
+        return SHORT;
+    }
+    let Named::Of(chosen) = scheme_in(scheme) else {
+        return NO_SCHEME;
+    };
+    let held = record_in(rec);
+    let settings = Settings {
+        fallback: fallback != 0,
+        substitute: substitute != 0,
+    };
+    let done = convert::from_unicode(
+        held,
+        states,
+        codes,
+        infos,
+        order,
+        input,
+        output,
+        settings,
+        chosen,
+    );
+    put_done(done, result)
+}
+
 // From a table's bytes to UTF-8.
 #[no_mangle]
 pub extern "C" fn oboepond_to_utf8(
@@ -155,27 +280,23 @@ pub extern "C" fn oboepond_to_utf8(
 ) -> u32
     ensures { λ r. ⌜ (let m =
         slices (now (states .entry)) (now (codes .entry)) (now (infos .entry)) (now (order .entry)) in
-        let numbers = now (rec .entry) in
         let old = now (output .entry) in
-        let before = now (result .entry) in
-        let run = toExported numbers m substitute (now (input .entry)) (length old) in
-        (r ≡ ifShort 2 numbers before 70 (endNumber (run .end)))
-        × (now (output .exit) ≡ ifShort 2 numbers before old (putOut run old))
-        × (now (result .exit) ≡ ifShort 2 numbers before before (withNumbers (runNumbers run) before))) ⌝ }
+        let run = toExported (now (rec .entry)) m substitute (now (input .entry)) (length old) in
+        let a = answered (now (rec .entry)) 0 run old (now (result .entry)) in
+        (r ≡ a .number) × (now (output .exit) ≡ a .output) × (now (result .exit) ≡ a .result)) ⌝ }
 {
-    if rec.len() < RECORD {
-        return SHORT;
-    }
-    if result.len() < 2 {
-        return SHORT;
-    }
-    let held = record_in(rec);
-    let settings = Settings {
-        fallback: false,
-        substitute: substitute != 0,
-    };
-    let done = convert::to_utf8(held, states, codes, infos, order, input, output, settings);
-    put_done(done, result)
+    oboepond_to_unicode(
+        rec,
+        states,
+        codes,
+        infos,
+        order,
+        input,
+        output,
+        UTF8,
+        substitute,
+        result,
+    )
 }
 
 // From UTF-8 to a table's bytes.
@@ -194,27 +315,24 @@ pub extern "C" fn oboepond_from_utf8(
 ) -> u32
     ensures { λ r. ⌜ (let m =
         slices (now (states .entry)) (now (codes .entry)) (now (infos .entry)) (now (order .entry)) in
-        let numbers = now (rec .entry) in
         let old = now (output .entry) in
-        let before = now (result .entry) in
-        let run = fromExported numbers m fallback substitute (now (input .entry)) (length old) in
-        (r ≡ ifShort 2 numbers before 70 (endNumber (run .end)))
-        × (now (output .exit) ≡ ifShort 2 numbers before old (putOut run old))
-        × (now (result .exit) ≡ ifShort 2 numbers before before (withNumbers (runNumbers run) before))) ⌝ }
+        let run = fromExported (now (rec .entry)) m fallback substitute (now (input .entry)) (length old) in
+        let a = answered (now (rec .entry)) 0 run old (now (result .entry)) in
+        (r ≡ a .number) × (now (output .exit) ≡ a .output) × (now (result .exit) ≡ a .result)) ⌝ }
 {
-    if rec.len() < RECORD {
-        return SHORT;
-    }
-    if result.len() < 2 {
-        return SHORT;
-    }
-    let held = record_in(rec);
-    let settings = Settings {
-        fallback: fallback != 0,
-        substitute: substitute != 0,
-    };
-    let done = convert::from_utf8(held, states, codes, infos, order, input, output, settings);
-    put_done(done, result)
+    oboepond_from_unicode(
+        rec,
+        states,
+        codes,
+        infos,
+        order,
+        input,
+        output,
+        UTF8,
+        fallback,
+        substitute,
+        result,
+    )
 }
 
 // 1 for yes, 0 for no.

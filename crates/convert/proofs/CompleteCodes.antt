@@ -6,6 +6,7 @@ use mathlib.Core.Bool.{true}
 use native.Mathlib.Nat.{zero-add}
 use lib.ListN.{length}
 use lib.Seq.{take-append-seam}
+use Rattle.unicode.specs.Scheme.{Side}
 use Rattle.table.specs.Limits.{Limits}
 use Rattle.table.specs.States.{longest, cutOf, endKind, isCode}
 use Rattle.table.specs.Codes.{AllByte}
@@ -15,7 +16,7 @@ use Rattle.table.specs.declared.states.Cut.the-variants as cut
 use Rattle.table.proofs.Cuts.{cut-code}
 use Rattle.table.proofs.KeptSizes.{kept-short}
 use Rattle.table.proofs.FormTested.{code-length}
-use Rattle.convert.specs.Step.{Side, pointFor, encoded, toStep}
+use Rattle.convert.specs.Step.{pointFor, encoded, toStep}
 use Rattle.convert.specs.declared.Settings.{Settings}
 use Rattle.convert.proofs.Steps.{to-complete, to-gives}
 

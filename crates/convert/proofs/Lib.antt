@@ -2,9 +2,12 @@ pub mod Runs
 pub mod Whole
 pub mod Steps
 pub mod Text
+pub mod Schemes
+mod Marked
 pub mod CompleteCodes
 pub mod ThereAndBack
 pub mod RoundTrips
+pub mod SchemeText
 pub mod CodeBytes
 pub mod LookUps
 mod Choices

@@ -1,12 +1,14 @@
 -- Conversion over what loading an accepted text gave and left is conversion by the text's own rows and lines.
-use Prim.Native.Nat.{ℕ, _≤_}
+use Prim.Native.Nat.{ℕ, _+_, _≤_}
 use mathlib.Core.Path.{_≡_, refl, sym, ap, subst, _∙_}
 use mathlib.Core.Bool.{Bool, true}
 use mathlib.Core.Logic.{_↔_}
 use mathlib.Core.List.{List}
-use lib.ListN.{take}
+use lib.ListN.{length, take}
 use lib.Dec.{lit≤}
 use Rattle.lists.proofs.Cases.{pick-yes}
+use Rattle.unicode.specs.Scheme.{Side}
+use Rattle.unicode.specs.declared.scheme.Scheme.{Scheme}
 use Rattle.unicode.specs.declared.utf8.Sequence.{Sequence}
 use Rattle.unicode.specs.declared.utf8.Sequence.the-variants as sequence
 use Rattle.table.specs.Limits.{limits}
@@ -27,14 +29,14 @@ use Rattle.table.specs.Forms.{SameTable}
 use Rattle.table.proofs.InMemory.{SameTable-tableIn, same-reader, same-writer}
 use Rattle.table.proofs.LoadedForm.{LoadedForm, loaded-form}
 use Rattle.convert.specs.Run.{SequenceStep, Run, runOf, endedWith}
-use Rattle.convert.specs.Step.{Side, utf8, Written, code, subchar1, nothing, pointFor, onCut, toSequence, encoded, toStep, writes, sub1Bytes, substituted, sentFor, onSequence, fromStep, strict}
-use Rattle.convert.specs.Convert.{toRun, fromRun, toTested, fromTested}
+use Rattle.convert.specs.Step.{Written, code, subchar1, nothing, pointFor, onCut, toSequence, encoded, toStep, writes, sub1Bytes, substituted, sentFor, onSequence, fromStep, strict}
+use Rattle.convert.specs.Convert.{markOf, writeIn, readIn, toRun, fromRun, toTested, fromTested}
 use Rattle.convert.specs.Claims.{RoundTrips}
 use Rattle.convert.specs.loops.Laws.{ThereAndBack, RoundTripsByCalls}
 use Rattle.convert.specs.declared.RunEnd.the-variants.{BadTable}
 use Rattle.convert.specs.declared.Settings.{Settings}
 use Rattle.convert.proofs.SameLines.{writer⇒writes}
-use Rattle.convert.proofs.RoundTrips.{round-trip-runs}
+use Rattle.convert.proofs.SchemeText.{round-trip-runs}
 
 -- two tables with the same rows and, as members, the same lines
 module _ (t u : Table) (s : SameTable u t) (apart : t9 (t .lines) ≡ true) where
@@ -77,48 +79,48 @@ module _ (t : Table) (p : Proper t) (k : Keeps limits t) (rec : Record) (m : Sli
   held : SameTable (tableIn rec m) t
   held = SameTable-tableIn limits t p k rec m f
 
-  pub to-held : (side : Side) (settings : Settings) (x : List ℕ) (room : ℕ) → toTested side limits rec m settings x room ≡ toRun side t settings x room
+  pub to-held : (e : Scheme) (settings : Settings) (x : List ℕ) (room : ℕ) → toTested e limits rec m settings x room ≡ toRun e t settings x room
   unfolding toTested
-  to-held side settings x room =
-      pick-yes (valid limits rec m) (toRun side (tableIn rec m) settings x room) (endedWith BadTable 0) kept
-      ∙ ap (λ (step : SequenceStep). runOf step 0 0 x room) (to-same t (tableIn rec m) held (k .rule9) side settings)
+  to-held e settings x room =
+      pick-yes (valid limits rec m) (toRun e (tableIn rec m) settings x room) (endedWith BadTable 0) kept
+      ∙ ap (λ (step : Side → SequenceStep). writeIn e (λ side. runOf (step side) 0 0 x) room) (λ i side. to-same t (tableIn rec m) held (k .rule9) side settings i)
 
-  pub from-held : (side : Side) (settings : Settings) (x : List ℕ) (room : ℕ)
-      → fromTested side limits rec m settings x room ≡ fromRun side t settings x room
+  pub from-held : (e : Scheme) (settings : Settings) (x : List ℕ) (room : ℕ)
+      → fromTested e limits rec m settings x room ≡ fromRun e t settings x room
   unfolding fromTested
-  from-held side settings x room =
-      pick-yes (valid limits rec m) (fromRun side (tableIn rec m) settings x room) (endedWith BadTable 0) kept
-      ∙ ap (λ (step : SequenceStep). runOf step 0 0 x room) (from-same t (tableIn rec m) held (k .rule9) side settings)
+  from-held e settings x room =
+      pick-yes (valid limits rec m) (fromRun e (tableIn rec m) settings x room) (endedWith BadTable 0) kept
+      ∙ ap (λ (step : Side → SequenceStep). readIn e (λ side. runOf (step side) 0 0) x room) (λ i side. from-same t (tableIn rec m) held (k .rule9) side settings i)
 
 -- OF EVERY ACCEPTED TEXT, whatever the lent slices held: over what its load gave and left in them, in the words of the load's own promise
 module _ (text : List ℕ) (old : Slices) (t : Table) where
-  abbrev pub toLoaded : Given → Side → Settings → List ℕ → ℕ → Run
-  toLoaded g side settings x room =
-      let m = leftIn limits g old in toTested side limits (loadedBy g .table) m settings x room
+  abbrev pub toLoaded : Given → Scheme → Settings → List ℕ → ℕ → Run
+  toLoaded g e settings x room =
+      let m = leftIn limits g old in toTested e limits (loadedBy g .table) m settings x room
 
-  abbrev pub fromLoaded : Given → Side → Settings → List ℕ → ℕ → Run
-  fromLoaded g side settings x room =
-      let m = leftIn limits g old in fromTested side limits (loadedBy g .table) m settings x room
+  abbrev pub fromLoaded : Given → Scheme → Settings → List ℕ → ℕ → Run
+  fromLoaded g e settings x room =
+      let m = leftIn limits g old in fromTested e limits (loadedBy g .table) m settings x room
 
-  module _ (e : given limits text old ≡ read (accepted t)) where
+  module _ (loaded : given limits text old ≡ read (accepted t)) where
     made : LoadedForm limits t (given limits text old) old
-    made = loaded-form limits text old t (lit≤ tt) e
+    made = loaded-form limits text old t (lit≤ tt) loaded
 
-    pub to-loaded : (side : Side) (settings : Settings) (x : List ℕ) (room : ℕ)
-        → toLoaded (given limits text old) side settings x room ≡ toRun side t settings x room
-    to-loaded side settings x room = to-held t (made .proper) (made .keeps) (loadedBy (given limits text old) .table) _ (made .form) side settings x room
+    pub to-loaded : (e : Scheme) (settings : Settings) (x : List ℕ) (room : ℕ)
+        → toLoaded (given limits text old) e settings x room ≡ toRun e t settings x room
+    to-loaded e settings x room = to-held t (made .proper) (made .keeps) (loadedBy (given limits text old) .table) _ (made .form) e settings x room
 
-    pub from-loaded : (side : Side) (settings : Settings) (x : List ℕ) (room : ℕ)
-        → fromLoaded (given limits text old) side settings x room ≡ fromRun side t settings x room
-    from-loaded side settings x room =
-        from-held t (made .proper) (made .keeps) (loadedBy (given limits text old) .table) _ (made .form) side settings x room
+    pub from-loaded : (e : Scheme) (settings : Settings) (x : List ℕ) (room : ℕ)
+        → fromLoaded (given limits text old) e settings x room ≡ fromRun e t settings x room
+    from-loaded e settings x room =
+        from-held t (made .proper) (made .keeps) (loadedBy (given limits text old) .table) _ (made .form) e settings x room
 
     -- a complete code round-trips by the text's lines exactly when what the two functions promise there, strict, gives it back
-    pub round-trip-loaded : (fallback : Bool) (c : List ℕ) → AllByte c → isCode (stepsOf t) 0 c ≡ true → (room room′ : ℕ) → 4 ≤ room → 4 ≤ room′
-        → RoundTrips t fallback c ↔ RoundTripsByCalls (loadedBy (given limits text old) .table) (leftIn limits (given limits text old) old) fallback c room room′
-    round-trip-loaded fallback c bytes whole room room′ long long′ =
-        subst (λ (to : List ℕ → ℕ → Run). RoundTrips t fallback c ↔ ThereAndBack to (fromLoaded (given limits text old) utf8 (strict fallback)) c room room′)
-        (λ i x n. sym (to-loaded utf8 (strict fallback) x n) i)
-        (subst (λ (from : List ℕ → ℕ → Run). RoundTrips t fallback c ↔ ThereAndBack (toRun utf8 t (strict fallback)) from c room room′)
-        (λ i x n. sym (from-loaded utf8 (strict fallback) x n) i)
-        (round-trip-runs limits t (made .keeps) fallback c bytes whole room room′ long long′))
+    pub round-trip-loaded : (e : Scheme) (fallback : Bool) (c : List ℕ) → AllByte c → isCode (stepsOf t) 0 c ≡ true → (room room′ : ℕ) → length (markOf e) + 4 ≤ room → 4 ≤ room′
+        → RoundTrips t fallback c ↔ RoundTripsByCalls e (loadedBy (given limits text old) .table) (leftIn limits (given limits text old) old) fallback c room room′
+    round-trip-loaded e fallback c bytes whole room room′ long long′ =
+        subst (λ (to : List ℕ → ℕ → Run). RoundTrips t fallback c ↔ ThereAndBack to (fromLoaded (given limits text old) e (strict fallback)) c room room′)
+        (λ i x n. sym (to-loaded e (strict fallback) x n) i)
+        (subst (λ (from : List ℕ → ℕ → Run). RoundTrips t fallback c ↔ ThereAndBack (toRun e t (strict fallback)) from c room room′)
+        (λ i x n. sym (from-loaded e (strict fallback) x n) i)
+        (round-trip-runs e limits t (made .keeps) fallback c bytes whole room room′ long long′))

@@ -1,4 +1,4 @@
--- UTF-8 is a lawful Unicode side; both steps are sound: what they give has some bytes, lies in the input and stays under
+-- Every scheme is held in a lawful side of Unicode; both steps are sound: what they give has some bytes, lies in the input and stays under
 -- more input; and what is read towards Unicode is a scalar value.
 use mathlib.Core.Path.{_≡_, refl, sym, ap, subst, _∙_}
 use Prim.Native.Nat.{ℕ, _≤_, _<_}
@@ -13,12 +13,19 @@ use lib.Seq.{take-append-le}
 use Rattle.lists.proofs.Laws.{clash}
 use Rattle.lists.proofs.Cases.{pick-case}
 use Rattle.unicode.specs.Utf8.{Scalar}
+use Rattle.unicode.specs.Scheme.{Side, utf8, utf32, sideOf}
 use Rattle.unicode.specs.declared.utf8.Stop.{Stop}
+use Rattle.unicode.specs.declared.utf32.ByteOrder.{ByteOrder}
+use Rattle.unicode.specs.declared.utf32.ByteOrder.the-variants.{Big, Little}
+use Rattle.unicode.specs.declared.scheme.Scheme.{Scheme}
+use Rattle.unicode.specs.declared.scheme.Scheme.the-variants as scheme
 use Rattle.unicode.specs.declared.utf8.Sequence.{Sequence}
 use Rattle.unicode.specs.declared.utf8.Sequence.the-variants as sequence
 use Rattle.unicode.proofs.Puts.{length-encode}
 use Rattle.unicode.proofs.RoundTrip.{utf8-encode-decode, reads-within}
 use Rattle.unicode.proofs.MoreInput.{more-input-same}
+use Rattle.unicode.proofs.Words.{length-encodeIn}
+use Rattle.unicode.proofs.FourBytes.{decodeIn⇒Read, utf32-encode-decode, utf32-more}
 use Rattle.table.specs.States.{longest, cutOf}
 use Rattle.table.specs.Meaning.{Line, Table, stepsOf, reader}
 use Rattle.table.specs.Rules.{t6}
@@ -28,7 +35,7 @@ use Rattle.table.specs.declared.states.CutStop.the-variants as cutStop
 use Rattle.table.proofs.Cuts.{cut-within, cut-more, no-ends-zero}
 use Rattle.table.proofs.FormLines.{reader-keeps}
 use Rattle.convert.specs.Run.{give, stop}
-use Rattle.convert.specs.Step.{Side, utf8, substitutePoint, pointFor, onCut, toSequence, encoded, toStep, Written, code, subchar1, nothing, writes, sentFor, onSequence, fromStep}
+use Rattle.convert.specs.Step.{substitutePoint, pointFor, onCut, toSequence, encoded, toStep, Written, code, subchar1, nothing, writes, sentFor, onSequence, fromStep}
 use Rattle.convert.specs.declared.Settings.{Settings}
 use Rattle.lists.specs.Tests.{allOf}
 use Rattle.convert.specs.loops.Inner.{Sound, LawfulSide}
@@ -36,12 +43,30 @@ use Rattle.convert.specs.loops.Inner.{Sound, LawfulSide}
 pub utf8-lawful : LawfulSide utf8
 utf8-lawful = record {
   some = λ c. omega (arith, length-encode c);
+  few = λ c. omega (arith, length-encode c);
   put-reads = utf8-encode-decode;
   scalar = λ s c n e. reads-within s c n e .scalar;
   positive = λ s c n e. reads-within s c n e .some;
   within = λ s c n e. reads-within s c n e .within;
   grows = λ s t c n e. more-input-same s t (λ q. let z : _≡_ {A = ℕ} 0 1 = cc in omega arith) ∙ e;
 }
+
+pub utf32-lawful : (order : ByteOrder) → LawfulSide (utf32 order)
+utf32-lawful order = record {
+  some = λ c. omega (arith, length-encodeIn order c);
+  few = λ c. omega (arith, length-encodeIn order c);
+  put-reads = utf32-encode-decode order;
+  scalar = λ s c n e. decodeIn⇒Read order s c n e .scalar;
+  positive = λ s c n e. omega (arith, decodeIn⇒Read order s c n e .count);
+  within = λ s c n e. let r = decodeIn⇒Read order s c n e in omega (arith, r .count, r .long);
+  grows = utf32-more order;
+}
+
+pub lawful : (e : Scheme) → LawfulSide (sideOf e)
+lawful scheme.Utf8 = utf8-lawful
+lawful scheme.Utf32Be = utf32-lawful Big
+lawful scheme.Utf32Le = utf32-lawful Little
+lawful scheme.Utf32 = utf32-lawful Big
 
 -- TO UNICODE. A code point was read from a complete code of one to four bytes
 pub record ReadFrom (t : Table) (row : ℕ) (s : List ℕ) (n : ℕ) : Type 0 where
@@ -127,11 +152,11 @@ to-sound u t settings = record {
       ∙ e;
 }
 
--- a code gives at most four bytes of UTF-8
-pub four-bytes : (t : Table) (settings : Settings) (row : ℕ) (s bs : List ℕ) (n next : ℕ) → toStep utf8 t settings row s ≡ give bs n next → length bs ≤ 4
-four-bytes t settings row s bs n next e =
-    let k = toStep⇒Encoded t settings row utf8 s bs n next e in
-    omega (arith, length-encode (k .point), ap length (k .spelt))
+-- a code gives at most four bytes of Unicode
+pub four-bytes : (u : Side) → LawfulSide u → (t : Table) (settings : Settings) (row : ℕ) (s bs : List ℕ) (n next : ℕ) → toStep u t settings row s ≡ give bs n next → length bs ≤ 4
+four-bytes u law t settings row s bs n next e =
+    let k = toStep⇒Encoded t settings row u s bs n next e in
+    omega (arith, law .few (k .point), ap length (k .spelt))
 
 -- T6: a line's code point is a scalar value
 t6-scalar : (l : Line) → t6 l ≡ true → Scalar (l .point)

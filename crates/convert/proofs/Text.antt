@@ -1,26 +1,21 @@
--- What is written towards Unicode is text: code points of the input, spelt out, which read back as themselves; and how much room UTF-8 needs.
+-- What is written towards Unicode, with no mark, is text: code points of the input, spelt out, which read back as themselves; and how much room they need.
 use mathlib.Core.Path.{_≡_, refl, sym, ap, subst, _∙_}
 use Prim.Native.Nat.{ℕ, _-_, _*_, _≤_, _<_}
-use mathlib.Core.List.{List, [], _∷_, _++_, append-nil, map, flatten}
+use mathlib.Core.List.{List, [], _∷_, _++_, map, flatten}
 use mathlib.Core.Bool.{true}
 use native.Mathlib.Omega.{arith}
 use lib.ListN.{length, drop, length-drop}
-use lib.Seq.{take-append-seam}
-use Rattle.lists.proofs.Order.{All-map⁺, All-⇒}
-use Rattle.unicode.specs.Utf8.{Scalar, encodeOf}
-use Rattle.unicode.specs.WellFormed.{wellFormed}
+use Rattle.unicode.specs.Utf8.{Scalar}
+use Rattle.unicode.specs.Scheme.{Side}
 use Rattle.unicode.specs.declared.utf8.Stop.{Stop}
 use Rattle.unicode.specs.declared.utf8.Sequence.the-variants as sequence
-use Rattle.unicode.proofs.RoundTrip.{utf8-encode-decode}
-use Rattle.unicode.proofs.WellFormed.{decodes-well-formed}
 use Rattle.table.specs.Meaning.{Table}
 use Rattle.table.specs.Rules.{t6}
 use Rattle.lists.specs.Tests.{allOf}
 use Rattle.convert.specs.Run.{give, stop, Run, runOf, after, endedWith}
-use Rattle.convert.specs.Step.{Side, utf8, toStep}
-use Rattle.convert.specs.Convert.{toRun}
-use Rattle.convert.specs.Claims.{WellFormedText}
-use Rattle.convert.specs.loops.Laws.{NotFull, codePoints, pointsIn, spell, onText, textStep, ReadsAs, ReadsAsFirst}
+use Rattle.convert.specs.Step.{toStep}
+use Rattle.convert.specs.Claims.{codePoints, onText, textStep, allRead}
+use Rattle.convert.specs.loops.Laws.{NotFull, spell}
 use Rattle.convert.specs.declared.RunEnd.the-variants.{OutputFull, Stopped}
 use Rattle.convert.specs.declared.Settings.{Settings}
 use Rattle.convert.proofs.Runs.{run-stop, run-more, every-run}
@@ -30,13 +25,13 @@ use Rattle.lists.specs.Order.{All as Every}
 use Rattle.convert.specs.loops.Inner.{LawfulSide}
 
 -- what a run has written, beside all code points of its input
-record Spelt (u : Side) (r : Run) (all : List ℕ) : Type 0 where
-  points : List ℕ
-  rest : List ℕ
-  first : all ≡ points ++ rest
-  bytes : r .bytes ≡ spell u points
-  scalar : Every Scalar points
-  whole : NotFull r → rest ≡ []
+pub record Spelt (u : Side) (r : Run) (all : List ℕ) : Type 0 where
+  pub points : List ℕ
+  pub rest : List ℕ
+  pub first : all ≡ points ++ rest
+  pub bytes : r .bytes ≡ spell u points
+  pub scalar : Every Scalar points
+  pub whole : NotFull r → rest ≡ []
 
 spelt-on : (u : Side) (c n : ℕ) (bs : List ℕ) (r : Run) (all : List ℕ) → Scalar c → u .encode c ≡ bs → Spelt u r all → Spelt u (after n bs r) (c ∷ all)
 unfolding spell
@@ -76,7 +71,7 @@ module _ (u : Side) (t : Table) (settings : Settings) (ok : allOf t6 (t .lines) 
       subst (λ (x : Run). Spelt u (after n bs r) (x .bytes)) (sym p)
       (spelt-on u (c .point) n bs r _ (to-scalar t settings row s (c .point) n ok (c .reads)) (c .spelt) (ih (places - 1) (omega (arith, length-drop n s))))
 
-  spelt : (s : List ℕ) (row room : ℕ) → Spells row s room (runOf (toStep u t settings) row 0 s room)
+  pub spelt : (s : List ℕ) (row room : ℕ) → Spells row s room (runOf (toStep u t settings) row 0 s room)
   unfolding spell
   spelt =
       every-run (toStep u t settings) (to-sound u t settings) Spells
@@ -106,58 +101,26 @@ module _ (u : Side) (law : LawfulSide u) where
   spell-gives [] s = tt
   spell-gives (c ∷ cs) s = (law .some c, (λ rest. ap onText (law .put-reads c rest (s .0))), spell-gives cs (s .1))
 
-  pub reads-back : (cs : List ℕ) → Every Scalar cs → ReadsAs u (spell u cs) cs
+  pub reads-back : (cs : List ℕ) → Every Scalar cs → runOf (textStep u) 0 0 (spell u cs) (length cs) ≡ allRead (spell u cs) cs
   reads-back cs s =
       let b = spell-out u cs in
       let l : length (outputs (spellings u cs)) ≤ length cs = rw b (omega arith) in
       rw (spell-in u cs) at (rw b at (runOf-GivesAll (textStep u) (spellings u cs) (length cs) (spell-gives cs s) l))
 
-  module _ (t : Table) (settings : Settings) (s : List ℕ) (room : ℕ) (ok : allOf t6 (t .lines) ≡ true) where
-    -- whatever the answer, what is written reads as the first of the input's code points
-    pub text-so-far : ReadsAsFirst u (toRun u t settings s room .bytes) (pointsIn t settings s)
-    text-so-far =
-        let w = spelt u t settings ok s 0 room (length s) (omega arith) in
-        record { points = w .points; rest = w .rest; first = w .first; reads = rw (w .bytes) (reads-back (w .points) (w .scalar)) }
+  -- four places to each byte of the input are enough
+  pub side-enough : (t : Table) (settings : Settings) (s : List ℕ) (row room : ℕ) → 4 * length s ≤ room → NotFull (runOf (toStep u t settings) row 0 s room)
+  side-enough t settings =
+      every-run (toStep u t settings) (to-sound u t settings) (λ row s room r. 4 * length s ≤ room → NotFull r)
+      (λ row room h f. let z : _≡_ {A = ℕ} 0 1 = cc in omega arith)
+      (λ row s room h w e l f. let z : _≡_ {A = ℕ} 0 1 = cc in omega arith)
+      (λ row s room h bs n next e l k f. let b = four-bytes u law t settings row s bs n next e in omega arith)
+      (λ row s room h bs n next e l r ih k f.
+      let b = four-bytes u law t settings row s bs n next e in
+      let w = to-sound u t settings .some row s bs n next e in
+      let v = to-sound u t settings .within row s bs n next e in
+      ih (omega (arith, length-drop n s)) f)
 
-    -- and unless the answer is 50, as all of them
-    pub well-formed : NotFull (toRun u t settings s room) → ReadsAs u (toRun u t settings s room .bytes) (pointsIn t settings s)
-    well-formed f =
-        let w = spelt u t settings ok s 0 room (length s) (omega arith) in
-        let e : w .points ≡ pointsIn t settings s = sym (w .first ∙ ap (λ (l : List ℕ). w .points ++ l) (w .whole f) ∙ append-nil (w .points)) in
-        rw (w .bytes) (subst (ReadsAs u (spell u (w .points))) e (reads-back (w .points) (w .scalar)))
-
--- a scalar value is encoded as one whole well-formed sequence
-encodes-formed : (c : ℕ) → Scalar c → wellFormed (encodeOf c) ≡ true
-encodes-formed c s =
-    let e = encodeOf c in
-    let r = decodes-well-formed (e ++ []) c (length e) .0 (utf8-encode-decode c [] s) in
-    ap wellFormed (sym (take-append-seam e [])) ∙ r .formed
-
-spell-flat : (u : Side) (cs : List ℕ) → spell u cs ≡ flatten (map (u .encode) cs)
+pub spell-flat : (u : Side) (cs : List ℕ) → spell u cs ≡ flatten (map (u .encode) cs)
 unfolding spell flatten
 spell-flat u [] = refl
 spell-flat u (c ∷ cs) = ap (λ (l : List ℕ). u .encode c ++ l) (spell-flat u cs)
-
--- what is written towards UTF-8 is well-formed UTF-8, whatever the answer
-pub utf8-well-formed : (t : Table) (settings : Settings) (s : List ℕ) (room : ℕ) → allOf t6 (t .lines) ≡ true
-    → WellFormedText (toRun utf8 t settings s room .bytes)
-utf8-well-formed t settings s room ok =
-    let w = spelt utf8 t settings ok s 0 room (length s) (omega arith) in
-    record {
-      sequences = map encodeOf (w .points);
-      joined = w .bytes ∙ spell-flat utf8 (w .points);
-      formed = All-map⁺ encodeOf (λ q. wellFormed q ≡ true) (w .points) (All-⇒ encodes-formed (w .points) (w .scalar));
-    }
-
--- four places to each byte of the input are enough
-pub room-enough : (t : Table) (settings : Settings) (s : List ℕ) (row room : ℕ) → 4 * length s ≤ room → NotFull (runOf (toStep utf8 t settings) row 0 s room)
-room-enough t settings =
-    every-run (toStep utf8 t settings) (to-sound utf8 t settings) (λ row s room r. 4 * length s ≤ room → NotFull r)
-    (λ row room h f. let z : _≡_ {A = ℕ} 0 1 = cc in omega arith)
-    (λ row s room h w e l f. let z : _≡_ {A = ℕ} 0 1 = cc in omega arith)
-    (λ row s room h bs n next e l k f. let b = four-bytes t settings row s bs n next e in omega arith)
-    (λ row s room h bs n next e l r ih k f.
-    let b = four-bytes t settings row s bs n next e in
-    let w = to-sound utf8 t settings .some row s bs n next e in
-    let v = to-sound utf8 t settings .within row s bs n next e in
-    ih (omega (arith, length-drop n s)) f)

@@ -6,15 +6,16 @@ use mathlib.Core.Option.{Option}
 use native.Mathlib.Omega.{arith}
 use lib.ListN.{length}
 use Rattle.unicode.specs.Utf8.{Scalar}
+use Rattle.unicode.specs.Scheme.{Side}
 use Rattle.unicode.specs.declared.utf8.Sequence.the-variants as sequence
 use Rattle.table.specs.Limits.{Limits}
 use Rattle.table.specs.Meaning.{Table, Line}
 use Rattle.table.specs.Rules.{Keeps}
 use Rattle.convert.specs.Run.{give, Run}
-use Rattle.convert.specs.Step.{Side, pointFor, encoded, toStep, sentFor, fromStep}
-use Rattle.convert.specs.Convert.{toRun, fromRun}
-use Rattle.convert.specs.Claims.{RoundTripCode, frameOf}
-use Rattle.convert.specs.loops.Laws.{allRead, spell, pointsOf}
+use Rattle.convert.specs.Step.{pointFor, encoded, toStep, sentFor, fromStep}
+use Rattle.convert.specs.Convert.{toSide, fromSide}
+use Rattle.convert.specs.Claims.{RoundTripCode, frameOf, allRead}
+use Rattle.convert.specs.loops.Laws.{spell, pointsOf}
 use Rattle.convert.specs.loops.Inner.{LawfulSide}
 use Rattle.convert.specs.declared.Settings.{Settings}
 use Rattle.convert.proofs.Steps.{reader-scalar, from-gives}
@@ -67,7 +68,7 @@ module _ (lim : Limits) (t : Table) (keeps : Keeps lim t) (settings : Settings) 
 
     -- the frame is read whole and gives its code points
     pub there : (l : List (RoundTripCode t (settings .fallback))) (room : ℕ) → length (spell u (pointsOf l)) ≤ room
-        → toRun u t settings (frameOf l) room ≡ allRead (frameOf l) (spell u (pointsOf l))
+        → toSide u t settings (frameOf l) room ≡ allRead (frameOf l) (spell u (pointsOf l))
     there l room h =
         let r = all-to l in
         let k : length (outputs (toGivens l)) ≤ room = rw (r .1) h in
@@ -75,7 +76,7 @@ module _ (lim : Limits) (t : Table) (keeps : Keeps lim t) (settings : Settings) 
 
     -- and they give the frame
     pub back : (l : List (RoundTripCode t (settings .fallback))) (room : ℕ) → length (frameOf l) ≤ room
-        → fromRun u t settings (spell u (pointsOf l)) room ≡ allRead (spell u (pointsOf l)) (frameOf l)
+        → fromSide u t settings (spell u (pointsOf l)) room ≡ allRead (spell u (pointsOf l)) (frameOf l)
     back l room h =
         let r = all-from l in
         let k : length (outputs (fromGivens l)) ≤ room = rw (r .1) h in
@@ -83,12 +84,12 @@ module _ (lim : Limits) (t : Table) (keeps : Keeps lim t) (settings : Settings) 
 
     -- there and back: the frame itself
     pub there-and-back : (l : List (RoundTripCode t (settings .fallback))) (room space : ℕ) → length (spell u (pointsOf l)) ≤ room → length (frameOf l) ≤ space
-        → fromRun u t settings (toRun u t settings (frameOf l) room .bytes) space .bytes ≡ frameOf l
+        → fromSide u t settings (toSide u t settings (frameOf l) room .bytes) space .bytes ≡ frameOf l
     there-and-back l room space h k =
-        ap (λ (r : Run). fromRun u t settings (r .bytes) space .bytes) (there l room h) ∙ ap (λ (r : Run). r .bytes) (back l space k)
+        ap (λ (r : Run). fromSide u t settings (r .bytes) space .bytes) (there l room h) ∙ ap (λ (r : Run). r .bytes) (back l space k)
 
     -- two frames that give the same text are the same
     pub one-way : (l k : List (RoundTripCode t (settings .fallback))) → spell u (pointsOf l) ≡ spell u (pointsOf k) → frameOf l ≡ frameOf k
     one-way l k e =
         let n = length (frameOf l) + length (frameOf k) in
-        ap (λ (r : Run). r .bytes) (sym (back l n (omega arith)) ∙ ap (λ (s : List ℕ). fromRun u t settings s n) e ∙ back k n (omega arith))
+        ap (λ (r : Run). r .bytes) (sym (back l n (omega arith)) ∙ ap (λ (s : List ℕ). fromSide u t settings s n) e ∙ back k n (omega arith))

@@ -7,8 +7,9 @@ use native.Mathlib.Nat.{add-zero}
 use lib.ListN.{length, drop, length-append, length-drop}
 use lib.Seq.{drop-append-le, drop-append-seam, drop-drop, drop-length}
 use Rattle.convert.specs.Run.{give, SequenceStep, Run, runOf, after, endedWith}
+use Rattle.convert.specs.Claims.{allRead}
 use Rattle.convert.specs.loops.Inner.{Sound}
-use Rattle.convert.specs.loops.Laws.{NotFull, allRead, fed}
+use Rattle.convert.specs.loops.Laws.{NotFull, fed}
 use Rattle.convert.specs.declared.RunEnd.{RunEnd}
 use Rattle.convert.specs.declared.RunEnd.the-variants.{AllRead, OutputFull, Stopped}
 use Rattle.convert.proofs.Runs.{run-stop, run-more, every-run, after-after, after-none}

@@ -1,26 +1,67 @@
 -- What the promised laws of the conversions speak of.
--- Contents: well-formed output; a code that round-trips (document 01, 'The audit of codes': comes home), by lines;
--- frames of such codes.
+-- Contents: well-formed output; a text of a scheme read as code points; a code that round-trips (document 01, 'The
+-- audit of codes': comes home), by lines; frames of such codes.
 use Prim.Native.Nat.{ℕ}
 use mathlib.Core.Path.{_≡_}
 use mathlib.Core.List.{List, [], _∷_, _++_, flatten}
 use mathlib.Core.Bool.{Bool, true}
 use mathlib.Core.Option.{some}
-use Rattle.unicode.specs.WellFormed.{wellFormed}
+use lib.ListN.{length}
+use Rattle.unicode.specs.Scheme.{Side, wellFormedIn}
 use Rattle.unicode.specs.declared.utf8.Sequence.{Sequence}
 use Rattle.unicode.specs.declared.utf8.Sequence.the-variants as sequence
 use Rattle.unicode.specs.declared.utf8.Stop.the-variants as stopped
+use Rattle.unicode.specs.declared.scheme.Scheme.{Scheme}
 use Rattle.table.specs.States.{isCode}
 use Rattle.table.specs.Codes.{AllByte}
 use Rattle.table.specs.Meaning.{Line, Table, stepsOf, reader}
-use Rattle.convert.specs.Step.{utf8, Written, code, writes}
+use Rattle.convert.specs.Run.{Gives, give, stop, SequenceStep, Run, runOf}
+use Rattle.convert.specs.Step.{Written, code, writes}
+use Rattle.convert.specs.Convert.{readIn, toSide}
+use Rattle.convert.specs.declared.RunEnd.the-variants.{AllRead}
+use Rattle.convert.specs.declared.Settings.{Settings}
 use Rattle.lists.specs.Order.{All as Every}
 
--- bytes that are whole well-formed UTF-8 sequences, one after the other
-pub record WellFormedText (bs : List ℕ) : Type 0 where
+-- bytes that are whole well-formed sequences of a scheme, one after the other (a byte order mark is one too)
+pub record WellFormedText (e : Scheme) (bs : List ℕ) : Type 0 where
   pub sequences : List (List ℕ)
   pub joined : bs ≡ flatten sequences
-  pub formed : Every (λ q. wellFormed q ≡ true) sequences
+  pub formed : Every (λ q. wellFormedIn e q ≡ true) sequences
+
+-- the code points themselves as a side of Unicode
+abbrev pub readPoint : List ℕ → Sequence
+readPoint [] = sequence.Stopped stopped.CutShort
+readPoint (c ∷ s) = sequence.Scalar c 1
+
+abbrev pub codePoints : Side
+codePoints = record { decode = readPoint; encode = λ c. c ∷ []; unit = 1 }
+
+-- the code points of a table's bytes, which have at most one for each byte
+abbrev pub pointsIn : Table → Settings → List ℕ → List ℕ
+pointsIn t settings s = toSide codePoints t settings s (length s) .bytes
+
+-- reading a text: the step gives the code points themselves
+abbrev pub onText : Sequence → Gives
+onText (sequence.Scalar c n) = give (c ∷ []) n 0
+onText (sequence.Stopped w) = stop w
+
+abbrev pub textStep : Side → SequenceStep
+textStep u row s = onText (u .decode s)
+
+-- the run that read all of s
+abbrev pub allRead : List ℕ → List ℕ → Run
+allRead s bs = record { end = AllRead; read = length s; bytes = bs; state = 0 }
+
+-- bytes that read in a scheme, to the last of them, as these code points
+abbrev pub ReadsAs : Scheme → List ℕ → List ℕ → Type 0
+ReadsAs e bs points = readIn e (λ u. runOf (textStep u) 0 0) bs (length points) ≡ allRead bs points
+
+-- bytes that read as the first of these code points
+pub record ReadsAsFirst (e : Scheme) (bs all : List ℕ) : Type 0 where
+  pub points : List ℕ
+  pub rest : List ℕ
+  pub first : all ≡ points ++ rest
+  pub reads : ReadsAs e bs points
 
 -- a code round-trips: it reads as a code point which, strict, under the same fallback setting, is written as the same
 -- code

@@ -1,6 +1,6 @@
 -- What one sequence gives, on either side, by the lines of a table (document 01, 'The two pipes': To UTF-8, From UTF-8,
 -- Substitute). The Unicode side is a parameter.
--- Contents: a Unicode side; settings; to Unicode: the code point of a code, or its substitute (`toStep`); from Unicode:
+-- Contents: settings; to Unicode: the code point of a code, or its substitute (`toStep`); from Unicode:
 -- what a code point is written as, or its substitute (`fromStep`).
 use Prim.Native.Nat.{ℕ}
 use mathlib.Core.Path.{_≡_}
@@ -10,7 +10,7 @@ use mathlib.Core.Option.{Option, none, some}
 use lib.Dec.{eqb}
 use lib.ListN.{take}
 use Rattle.lists.specs.Pick.{if_then_else_}
-use Rattle.unicode.specs.Utf8.{decodeOne, encodeOf, Scalar}
+use Rattle.unicode.specs.Scheme.{Side}
 use Rattle.unicode.specs.declared.utf8.Sequence.{Sequence}
 use Rattle.unicode.specs.declared.utf8.Sequence.the-variants as sequence
 use Rattle.unicode.specs.declared.utf8.Stop.{Stop}
@@ -29,18 +29,7 @@ use Rattle.convert.specs.declared.ReadAs.{ReadAs}
 use Rattle.convert.specs.declared.ReadAs.the-variants as read
 use Rattle.convert.specs.declared.WrittenAs.{WrittenAs}
 use Rattle.convert.specs.declared.WrittenAs.the-variants as written
-use Rattle.convert.specs.declared.Sent.{Sent}
 use Rattle.convert.specs.declared.Settings.{Settings}
-use Rattle.convert.specs.declared.Sent.the-variants as sent
-
--- a Unicode encoding form: one code point from the front of a list, a code point as a list, the length of a code unit
-pub record Side : Type 0 where
-  pub decode : List ℕ → Sequence
-  pub encode : ℕ → List ℕ
-  pub unit : ℕ
-
-abbrev pub utf8 : Side
-utf8 = record { decode = decodeOne; encode = encodeOf; unit = 1 }
 
 -- the settings of a conversion that does not substitute, and of one that does, by whether fallback is on
 abbrev pub strict : Bool → Settings

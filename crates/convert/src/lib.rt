@@ -1,4 +1,4 @@
-// The two conversions: from a table's bytes to UTF-8, and back.
+// The two conversions: from a table's bytes to Unicode, in UTF-8 or UTF-32, and back.
 mod hints;
 
 use table::lookup::Found;
@@ -6,17 +6,20 @@ use table::lookup::Use;
 use table::states::Code;
 use table::states::Cut;
 use table::valid::Record;
+use unicode::scheme::Scheme;
 use unicode::utf8::Put;
 use unicode::utf8::Sequence;
 use unicode::utf8::Stop;
+use unicode::utf32::Mark;
 ghost use mathlib.Core.Path.{_≡_};
 ghost use mathlib.Core.Bool.{true};
-ghost use mathlib.Core.List.{List};
+ghost use mathlib.Core.List.{List, []};
 ghost use mathlib.Core.Option.{none};
 ghost use Prim.Native.Nat.{ℕ, _+_, _*_, _≤_};
-ghost use lib.ListN.{length, take};
+ghost use lib.ListN.{length, take, drop};
 ghost use lib.Seq.{sets};
 ghost use Rattle.lists.specs.Place.{fits, placed};
+ghost use Rattle.unicode.specs.Scheme.{Side, sideOf};
 ghost use Rattle.table.specs.Limits.{limits};
 ghost use Rattle.table.specs.Codes.{packed, unpacked, bytesOf};
 ghost use Rattle.table.specs.Meaning.{Table};
@@ -24,11 +27,11 @@ ghost use Rattle.table.specs.Slices.{slices};
 ghost use Rattle.table.specs.Lookup.{lineFound};
 ghost use Rattle.table.specs.Memory.{tableIn, sub1In};
 ghost use Rattle.table.specs.Valid.{valid};
-ghost use Rattle.convert.specs.Run.{convertedOf, putOut, endNumber, runNumber};
-ghost use Rattle.convert.specs.Step.{utf8, pointFor, toSequence, readAs, pointReadAs, writtenBy, writtenIn};
+ghost use Rattle.convert.specs.Run.{Run, after, convertedOf, putOut, endNumber, runNumber};
+ghost use Rattle.convert.specs.Step.{pointFor, toSequence, readAs, pointReadAs, writtenBy, writtenIn};
 ghost use Rattle.convert.specs.Step.{OwnCode, sentFor, stoppedBy, fromStep, substituted};
 ghost use Rattle.convert.specs.loops.Inner.{sentOf};
-ghost use Rattle.convert.specs.Convert.{toRun, fromRun, toTested, fromTested};
+ghost use Rattle.convert.specs.Convert.{markOf, readIn, toSide, fromSide, toRun, fromRun, toTested, fromTested};
 use table::states::TOP;
 ghost use Rattle.lists.specs.Pick.{if_then_else_};
 
@@ -39,7 +42,8 @@ const SHORT: usize = 64;
 pub enum RunEnd {
     // 0: all input is read.
     AllRead,
-    // 50: the next output does not fit. Empty the output and call again from the first byte not read.
+    // 50: the next output does not fit. Empty the output and call again from the first byte not read. Plain UTF-32,
+    // once its mark is written or its first four bytes are read: go on in UTF-32BE or UTF-32LE, whichever the text has.
     OutputFull,
     // 60: the record and the memory are no valid table, and nothing is read. Load the table again.
     BadTable,
@@ -74,11 +78,17 @@ pub struct Settings {
     pub substitute: bool,
 }
 
-// The outcome of one UTF-8 sequence: a code of the table (its bits and its length) and the count of bytes read, or a
-// stop.
+// The outcome of one sequence of Unicode: a code of the table (its bits and its length) and the count of bytes read,
+// or a stop.
 pub enum Sent {
     Code(u32, u32, usize),
     Stopped(Stop),
+}
+
+// How a text begins: the count of its mark's bytes, 0 without one, and the scheme of the text behind the mark.
+struct Front {
+    mark: usize,
+    scheme: Scheme,
 }
 
 // Document 01's number for the end of a conversion.
@@ -240,18 +250,18 @@ fn code_for(rec: Record, written: WrittenAs, n: usize, settings: Settings) -> Se
     }
 }
 
-// A stop of UTF-8: an illegal sequence counts as one byte, however far the decoder had to look.
-fn one_byte(stop: Stop) -> Stop
-    ensures { λ r. ⌜ r ≡ stoppedBy utf8 stop ⌝ }
+// A stop of the Unicode side: an illegal sequence counts as one code unit, however far the decoder had to look.
+fn one_unit(stop: Stop, scheme: Scheme) -> Stop
+    ensures { λ r. ⌜ r ≡ stoppedBy (sideOf scheme) stop ⌝ }
 {
     match stop {
         Stop::CutShort => Stop::CutShort,
-        Stop::Illegal(_) => Stop::Illegal(1),
+        Stop::Illegal(_) => Stop::Illegal(unicode::scheme::unit(scheme)),
         Stop::Unassigned => Stop::Unassigned,
     }
 }
 
-// One sequence of UTF-8. The contract covers valid memory only.
+// One sequence of Unicode, behind any mark. The contract covers valid memory only.
 fn from_step(
     rec: Record,
     codes: &[u32],
@@ -260,14 +270,15 @@ fn from_step(
     hints: &[u16],
     s: &[u8],
     settings: Settings,
+    scheme: Scheme,
 ) -> Sent
     ensures { λ r. ⌜ ((states : List ℕ)
         → let m = slices states (now (codes .entry)) (now (infos .entry)) (now (order .entry)) in
         valid limits rec m ≡ true
-        → sentOf r ≡ fromStep utf8 (tableIn rec m) settings 0 (now (s .entry))) ⌝ }
+        → sentOf r ≡ fromStep (sideOf scheme) (tableIn rec m) settings 0 (now (s .entry))) ⌝ }
 {
-    match unicode::utf8::decode(s) {
-        Sequence::Stopped(stop) => Sent::Stopped(one_byte(stop)),
+    match unicode::scheme::decode(scheme, s) {
+        Sequence::Stopped(stop) => Sent::Stopped(one_unit(stop, scheme)),
         Sequence::Scalar(c, n) => {
             let at = hints::hint_at(hints, hints::point_slot(c));
             let found = table::lookup::find_point_near(rec, codes, infos, order, c, at);
@@ -333,7 +344,7 @@ fn ended(end: RunEnd, read: usize, written: usize) -> Converted
     }
 }
 
-// The conversion of a valid table's bytes.
+// The conversion of a valid table's bytes to Unicode, with no mark.
 fn to_run(
     rec: Record,
     states: &[u16],
@@ -344,11 +355,12 @@ fn to_run(
     input: &[u8],
     out: &mut [u8],
     settings: Settings,
+    scheme: Scheme,
 ) -> Converted
     requires { ⌜ valid limits rec (slices (now states) (now codes) (now infos) (now order)) ≡ true ⌝ }
     ensures { λ r. ⌜ (let m =
         slices (now (states .entry)) (now (codes .entry)) (now (infos .entry)) (now (order .entry)) in
-        let run = toRun utf8 (tableIn rec m) settings (now (input .entry)) (length (now (out .entry))) in
+        let run = toSide (sideOf scheme) (tableIn rec m) settings (now (input .entry)) (length (now (out .entry))) in
         (r ≡ convertedOf run)
         × (now (out .exit) ≡ putOut run (now (out .entry)))) ⌝ }
 {
@@ -361,7 +373,7 @@ fn to_run(
                 return ended(RunEnd::Stopped(stop), at, w);
             }
             Sequence::Scalar(c, n) => {
-                let put = unicode::utf8::encode(c, out, w);
+                let put = unicode::scheme::encode(scheme, c, out, w);
                 match put {
                     Put::Bytes(m) => {
                         at += n;
@@ -391,11 +403,12 @@ fn to_hinted(
     input: &[u8],
     out: &mut [u8],
     settings: Settings,
+    scheme: Scheme,
 ) -> Converted
     requires { ⌜ valid limits rec (slices (now states) (now codes) (now infos) (now order)) ≡ true ⌝ }
     ensures { λ r. ⌜ (let m =
         slices (now (states .entry)) (now (codes .entry)) (now (infos .entry)) (now (order .entry)) in
-        let run = toRun utf8 (tableIn rec m) settings (now (input .entry)) (length (now (out .entry))) in
+        let run = toSide (sideOf scheme) (tableIn rec m) settings (now (input .entry)) (length (now (out .entry))) in
         (r ≡ convertedOf run)
         × (now (out .exit) ≡ putOut run (now (out .entry)))) ⌝ }
 {
@@ -411,6 +424,7 @@ fn to_hinted(
             input,
             out,
             settings,
+            scheme,
         );
     }
     let n = rec.mappings as usize;
@@ -426,10 +440,11 @@ fn to_hinted(
         input,
         out,
         settings,
+        scheme,
     )
 }
 
-// The conversion of UTF-8 to a valid table's bytes.
+// The conversion of Unicode, behind any mark, to a valid table's bytes.
 fn from_run(
     rec: Record,
     states: &[u16],
@@ -440,18 +455,28 @@ fn from_run(
     input: &[u8],
     out: &mut [u8],
     settings: Settings,
+    scheme: Scheme,
 ) -> Converted
     requires { ⌜ valid limits rec (slices (now states) (now codes) (now infos) (now order)) ≡ true ⌝ }
     ensures { λ r. ⌜ (let m =
         slices (now (states .entry)) (now (codes .entry)) (now (infos .entry)) (now (order .entry)) in
-        let run = fromRun utf8 (tableIn rec m) settings (now (input .entry)) (length (now (out .entry))) in
+        let run = fromSide (sideOf scheme) (tableIn rec m) settings (now (input .entry)) (length (now (out .entry))) in
         (r ≡ convertedOf run)
         × (now (out .exit) ≡ putOut run (now (out .entry)))) ⌝ }
 {
     let mut at = 0;
     let mut w = 0;
     while at < input.len() {
-        let sent = from_step(rec, codes, infos, order, hints, &input[at..], settings);
+        let sent = from_step(
+            rec,
+            codes,
+            infos,
+            order,
+            hints,
+            &input[at..],
+            settings,
+            scheme,
+        );
         match sent {
             Sent::Stopped(stop) => {
                 return ended(RunEnd::Stopped(stop), at, w);
@@ -478,11 +503,12 @@ fn from_hinted(
     input: &[u8],
     out: &mut [u8],
     settings: Settings,
+    scheme: Scheme,
 ) -> Converted
     requires { ⌜ valid limits rec (slices (now states) (now codes) (now infos) (now order)) ≡ true ⌝ }
     ensures { λ r. ⌜ (let m =
         slices (now (states .entry)) (now (codes .entry)) (now (infos .entry)) (now (order .entry)) in
-        let run = fromRun utf8 (tableIn rec m) settings (now (input .entry)) (length (now (out .entry))) in
+        let run = fromSide (sideOf scheme) (tableIn rec m) settings (now (input .entry)) (length (now (out .entry))) in
         (r ≡ convertedOf run)
         × (now (out .exit) ≡ putOut run (now (out .entry)))) ⌝ }
 {
@@ -498,6 +524,7 @@ fn from_hinted(
             input,
             out,
             settings,
+            scheme,
         );
     }
     let n = rec.mappings as usize;
@@ -513,35 +540,37 @@ fn from_hinted(
         input,
         out,
         settings,
+        scheme,
     )
 }
 
-// From a table's bytes to UTF-8: the test behind number 60 first, then sequence by sequence.
-pub fn to_utf8(
-    rec: Record,
-    states: &[u16],
-    codes: &[u32],
-    infos: &[u32],
-    order: &[u32],
-    input: &[u8],
-    out: &mut [u8],
-    settings: Settings,
-) -> Converted
-    ensures { λ r. ⌜ (let m =
-        slices (now (states .entry)) (now (codes .entry)) (now (infos .entry)) (now (order .entry)) in
-        let run = toTested utf8 limits rec m settings (now (input .entry)) (length (now (out .entry))) in
-        (r ≡ convertedOf run)
-        × (now (out .exit) ≡ putOut run (now (out .entry)))
-        × (endNumber (r .end) ≡ runNumber run)) ⌝ }
+// How many bytes the mark has that is written before a text.
+fn mark_len(scheme: Scheme) -> usize
+    ensures { λ r. ⌜ r ≡ length (markOf scheme) ⌝ }
 {
-    if !table::valid::memory_valid(rec, states, codes, infos, order) {
-        return ended(RunEnd::BadTable, 0, 0);
+    match scheme {
+        Scheme::Utf8 => 0,
+        Scheme::Utf32Be => 0,
+        Scheme::Utf32Le => 0,
+        Scheme::Utf32 => 4,
     }
-    to_hinted(rec, states, codes, infos, order, input, out, settings)
 }
 
-// From UTF-8 to a table's bytes: the test behind number 60 first, then sequence by sequence.
-pub fn from_utf8(
+// Writes that mark to the front of `out` if it fits, and answers whether it did.
+fn put_mark(scheme: Scheme, out: &mut [u8]) -> bool
+    ensures { λ r. ⌜ (let old = now (out .entry) in
+        let mark = markOf scheme in
+        (r ≡ fits old 0 mark)
+        × (now (out .exit) ≡ (if fits old 0 mark then placed old 0 mark else old))) ⌝ }
+{
+    let Scheme::Utf32 = scheme else {
+        return true;
+    };
+    unicode::utf32::put_mark(out)
+}
+
+// The conversion of a valid table's bytes to a scheme: plain UTF-32 has its mark first.
+fn to_scheme(
     rec: Record,
     states: &[u16],
     codes: &[u32],
@@ -550,10 +579,111 @@ pub fn from_utf8(
     input: &[u8],
     out: &mut [u8],
     settings: Settings,
+    scheme: Scheme,
+) -> Converted
+    requires { ⌜ valid limits rec (slices (now states) (now codes) (now infos) (now order)) ≡ true ⌝ }
+    ensures { λ r. ⌜ (let m =
+        slices (now (states .entry)) (now (codes .entry)) (now (infos .entry)) (now (order .entry)) in
+        let run = toRun scheme (tableIn rec m) settings (now (input .entry)) (length (now (out .entry))) in
+        (r ≡ convertedOf run)
+        × (now (out .exit) ≡ putOut run (now (out .entry)))) ⌝ }
+{
+    if !put_mark(scheme, out) {
+        return ended(RunEnd::OutputFull, 0, 0);
+    }
+    let mark = mark_len(scheme);
+    let done = to_hinted(
+        rec,
+        states,
+        codes,
+        infos,
+        order,
+        input,
+        &mut out[mark..],
+        settings,
+        scheme,
+    );
+    let end = done.end;
+    ended(end, done.read, done.written + mark)
+}
+
+// The front of a text: only plain UTF-32 can have a mark.
+fn front_of(scheme: Scheme, input: &[u8]) -> Front
+    ensures { λ r. ⌜ (r .mark ≤ length (now (input .entry)))
+        × ((run : Side → List ℕ → ℕ → Run) (room : ℕ)
+        → readIn scheme run (now (input .entry)) room
+        ≡ after (r .mark) [] (run (sideOf (r .scheme)) (drop (r .mark) (now (input .entry))) room)) ⌝ }
+{
+    let Scheme::Utf32 = scheme else {
+        return Front {
+            mark: 0,
+            scheme: scheme,
+        };
+    };
+    let Mark::Of(byte_order) = unicode::utf32::mark_at(input) else {
+        return Front {
+            mark: 0,
+            scheme: scheme,
+        };
+    };
+    Front {
+        mark: 4,
+        scheme: unicode::scheme::in_order(byte_order),
+    }
+}
+
+// The conversion of a scheme to a valid table's bytes: plain UTF-32 may have a mark first.
+fn from_scheme(
+    rec: Record,
+    states: &[u16],
+    codes: &[u32],
+    infos: &[u32],
+    order: &[u32],
+    input: &[u8],
+    out: &mut [u8],
+    settings: Settings,
+    scheme: Scheme,
+) -> Converted
+    requires { ⌜ valid limits rec (slices (now states) (now codes) (now infos) (now order)) ≡ true ⌝ }
+    ensures { λ r. ⌜ (let m =
+        slices (now (states .entry)) (now (codes .entry)) (now (infos .entry)) (now (order .entry)) in
+        let run = fromRun scheme (tableIn rec m) settings (now (input .entry)) (length (now (out .entry))) in
+        (r ≡ convertedOf run)
+        × (now (out .exit) ≡ putOut run (now (out .entry)))) ⌝ }
+{
+    let front = front_of(scheme, input);
+    let mark = front.mark;
+    let behind = front.scheme;
+    let done = from_hinted(
+        rec,
+        states,
+        codes,
+        infos,
+        order,
+        &input[mark..],
+        out,
+        settings,
+        behind,
+    );
+    let end = done.end;
+    ended(end, done.read + mark, done.written)
+}
+
+// From a table's bytes to Unicode: the test behind number 60 first, then the scheme's mark, then sequence by sequence.
+pub fn to_unicode(
+    rec: Record,
+    states: &[u16],
+    codes: &[u32],
+    infos: &[u32],
+    order: &[u32],
+    input: &[u8],
+    out: &mut [u8],
+    settings: Settings,
+    scheme: Scheme,
 ) -> Converted
     ensures { λ r. ⌜ (let m =
         slices (now (states .entry)) (now (codes .entry)) (now (infos .entry)) (now (order .entry)) in
-        let run = fromTested utf8 limits rec m settings (now (input .entry)) (length (now (out .entry))) in
+        let run = toTested scheme limits rec m settings (now (input .entry)) (length (now (out .entry))) in
         (r ≡ convertedOf run)
         × (now (out .exit) ≡ putOut run (now (out .entry)))
         × (endNumber (r .end) ≡ runNumber run)) ⌝ }
@@ -561,5 +691,50 @@ pub fn from_utf8(
     if !table::valid::memory_valid(rec, states, codes, infos, order) {
         return ended(RunEnd::BadTable, 0, 0);
     }
-    from_hinted(rec, states, codes, infos, order, input, out, settings)
+    to_scheme(
+        rec,
+        states,
+        codes,
+        infos,
+        order,
+        input,
+        out,
+        settings,
+        scheme,
+    )
+}
+
+// From Unicode to a table's bytes: the test behind number 60 first, then the scheme's mark, then sequence by sequence.
+pub fn from_unicode(
+    rec: Record,
+    states: &[u16],
+    codes: &[u32],
+    infos: &[u32],
+    order: &[u32],
+    input: &[u8],
+    out: &mut [u8],
+    settings: Settings,
+    scheme: Scheme,
+) -> Converted
+    ensures { λ r. ⌜ (let m =
+        slices (now (states .entry)) (now (codes .entry)) (now (infos .entry)) (now (order .entry)) in
+        let run = fromTested scheme limits rec m settings (now (input .entry)) (length (now (out .entry))) in
+        (r ≡ convertedOf run)
+        × (now (out .exit) ≡ putOut run (now (out .entry)))
+        × (endNumber (r .end) ≡ runNumber run)) ⌝ }
+{
+    if !table::valid::memory_valid(rec, states, codes, infos, order) {
+        return ended(RunEnd::BadTable, 0, 0);
+    }
+    from_scheme(
+        rec,
+        states,
+        codes,
+        infos,
+        order,
+        input,
+        out,
+        settings,
+        scheme,
+    )
 }

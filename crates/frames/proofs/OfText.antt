@@ -5,12 +5,13 @@ use mathlib.Core.Bool.{false}
 use mathlib.Core.List.{List, [], map, flatten}
 use lib.ListN.{length}
 use Rattle.lists.specs.Order.{All}
+use Rattle.unicode.specs.declared.scheme.Scheme.the-variants.{Utf8}
 use Rattle.table.specs.Limits.{limits}
 use Rattle.table.specs.Meaning.{Table}
 use Rattle.table.specs.Slices.{Slices}
 use Rattle.table.specs.Load.{read, accepted, loadedBy, given, leftIn}
 use Rattle.convert.specs.Run.{Run}
-use Rattle.convert.specs.Step.{utf8, substituting}
+use Rattle.convert.specs.Step.{substituting}
 use Rattle.convert.specs.Convert.{toRun}
 use Rattle.convert.proofs.LoadedText.{to-loaded}
 use Rattle.frames.specs.Stream.{whole, cutLines}
@@ -26,11 +27,11 @@ module _ (text : List ℕ) (old : Slices) (t : Table) (e : given limits text old
 
   -- the conversion by the text's table
   abbrev pub byText : List ℕ → Run
-  byText s = toRun utf8 t (substituting false) s 16384
+  byText s = toRun Utf8 t (substituting false) s 16384
 
   converts-by-text : loaded ≡ byText
   unfolding convertIn
-  converts-by-text = λ i s. to-loaded text old t e utf8 (substituting false) s 16384 i
+  converts-by-text = λ i s. to-loaded text old t e Utf8 (substituting false) s 16384 i
 
   -- ALL LINES OF FRAMES, for an input that comes in any pieces, each of which is read through
   pub read-by-text : (memory : List ℕ) (pieces : List Piece) → inPieces (lineReport loaded) memory (whole []) pieces .unread ≡ []

@@ -10,6 +10,7 @@ use lib.Dec.{leb}
 use lib.ListN.{length, take}
 use Rattle.lists.specs.Order.{All}
 use Rattle.lists.proofs.Cases.{pick-case, pick-yes, pick-no}
+use Rattle.unicode.specs.declared.scheme.Scheme.the-variants.{Utf8}
 use Rattle.table.specs.Limits.{limits}
 use Rattle.table.specs.Meaning.{Table}
 use Rattle.table.specs.Slices.{Slices, Lent}
@@ -18,11 +19,9 @@ use Rattle.table.specs.declared.load.Answer.the-variants.{Accepted}
 use Rattle.table.proofs.GivenText.{given-lent}
 use Rattle.table.proofs.Counts.{record-counts}
 use Rattle.convert.specs.Run.{Run, endNumber}
-use Rattle.convert.specs.Step.{utf8, toStep, substituting}
+use Rattle.convert.specs.Step.{substituting}
 use Rattle.convert.specs.Convert.{toRun}
-use Rattle.convert.proofs.Steps.{to-sound}
-use Rattle.convert.proofs.Text.{room-enough}
-use Rattle.convert.proofs.Whole.{more-room}
+use Rattle.convert.proofs.SchemeText.{to-more-room, room-enough}
 use Rattle.audit.specs.Demand.{beginning}
 use Rattle.frames.specs.Lines.{okLine, answerLine, closingLine, isDash, isHex, parsed}
 use Rattle.frames.specs.Stream.{InputLine, whole, tooLong, inputLines, cut}
@@ -57,13 +56,13 @@ report-cut convert cap l h =
 -- space for the longest frame is as good as space for this one
 module _ (t : Table) where
   abbrev inProgram : List ℕ → Run
-  inProgram s = toRun utf8 t (substituting false) s 16384
+  inProgram s = toRun Utf8 t (substituting false) s 16384
 
   converts-same : (s : List ℕ) → length s ≤ 4096 → inProgram s ≡ toUtf8 t s
   converts-same s h =
       let e : 4 * length s + (16384 - 4 * length s) ≡ 16384 = omega arith in
-      ap (toRun utf8 t (substituting false) s) (sym e)
-      ∙ more-room (toStep utf8 t (substituting false)) (to-sound utf8 t (substituting false)) s 0 (4 * length s) (16384 - 4 * length s) (room-enough t (substituting false) s 0 (4 * length s) (omega arith))
+      ap (toRun Utf8 t (substituting false) s) (sym e)
+      ∙ to-more-room Utf8 t (substituting false) s (4 * length s) (16384 - 4 * length s) (room-enough Utf8 t (substituting false) s (4 * length s) (omega arith))
 
   frame-same : (o : Option (List ℕ)) → ((s : List ℕ) → o ≡ some s → length s ≤ 4096) → frameLine inProgram o ≡ frameLine (toUtf8 t) o
   frame-same none short = refl

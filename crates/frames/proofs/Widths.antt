@@ -9,20 +9,22 @@ use lib.Dec.{eqb}
 use lib.ListN.{length}
 use Rattle.lists.proofs.Cases.{pick-case}
 use Rattle.unicode.specs.declared.utf8.Stop.the-variants as stopped
+use Rattle.unicode.specs.declared.scheme.Scheme.the-variants.{Utf8}
 use Rattle.table.specs.Limits.{limits}
 use Rattle.table.specs.Slices.{Slices}
 use Rattle.table.specs.Memory.{tableIn}
 use Rattle.table.specs.Valid.{valid}
 use Rattle.table.specs.declared.valid.Record.{Record}
 use Rattle.convert.specs.Run.{Run, endedWith, endNumber}
-use Rattle.convert.specs.Step.{utf8, toStep, substituting}
+use Rattle.unicode.specs.Scheme.{utf8}
+use Rattle.convert.specs.Step.{toStep, substituting}
 use Rattle.convert.specs.Convert.{toRun, toTested}
 use Rattle.convert.specs.loops.Laws.{NotFull}
 use Rattle.convert.specs.declared.RunEnd.{RunEnd}
 use Rattle.convert.specs.declared.RunEnd.the-variants.{AllRead, OutputFull, BadTable, Stopped}
 use Rattle.convert.proofs.Whole.{fits, reads-within}
 use Rattle.convert.proofs.Steps.{to-sound}
-use Rattle.convert.proofs.Text.{room-enough}
+use Rattle.convert.proofs.SchemeText.{room-enough}
 use Rattle.frames.specs.Lines.{badFrame, parsed}
 use Rattle.frames.specs.loops.Inner.{hexCount}
 use Rattle.frames.specs.Stream.{InputLine, whole, tooLong}
@@ -36,14 +38,14 @@ module _ (rec : Record) (m : Slices) where
   convert = convertIn rec m
 
   -- what holds of every conversion, and of one that the test behind 60 refused
-  of-frame : (P : Run → Type 0) (s : List ℕ) → P (toRun utf8 (tableIn rec m) (substituting false) s 16384) → P (endedWith BadTable 0) → P (convert s)
+  of-frame : (P : Run → Type 0) (s : List ℕ) → P (toRun Utf8 (tableIn rec m) (substituting false) s 16384) → P (endedWith BadTable 0) → P (convert s)
   unfolding convertIn toTested
   of-frame P s h k = pick-case P (valid limits rec m) _ _ (λ t. h) (λ t. k)
 
   -- number 50 never shows
   pub never-full : (s : List ℕ) → length s ≤ 4096 → NotFull (convert s)
   never-full s h =
-      of-frame NotFull s (room-enough (tableIn rec m) (substituting false) s 0 16384 (omega arith))
+      of-frame NotFull s (room-enough Utf8 (tableIn rec m) (substituting false) s 16384 (omega arith))
       (λ f. let z : _≡_ {A = ℕ} 0 1 = cc in omega arith)
 
   read-most : (s : List ℕ) → convert s .read ≤ length s

@@ -10,12 +10,13 @@ use lib.Dec.{leb}
 use lib.ListN.{length}
 use Rattle.lists.specs.Pick.{if_then_else_}
 use Rattle.lists.specs.Ascii.{ascii}
+use Rattle.unicode.specs.declared.scheme.Scheme.the-variants.{Utf8}
 use Rattle.table.specs.Limits.{limits}
 use Rattle.table.specs.Numbers.{refusalNumber}
 use Rattle.table.specs.Meaning.{Table}
 use Rattle.table.specs.Load.{Outcome, accepted, refused, loadOf}
 use Rattle.convert.specs.Run.{Run}
-use Rattle.convert.specs.Step.{utf8, substituting}
+use Rattle.convert.specs.Step.{substituting}
 use Rattle.convert.specs.Convert.{toRun}
 use Rattle.audit.specs.Audit.{completeCodes, plainList}
 use Rattle.frames.specs.Lines.{okLine, refusedLine, closingLine, parsed}
@@ -26,7 +27,7 @@ use Rattle.frames.specs.Pages.{findingLines}
 -- a frame to UTF-8 by the text's own rows and lines, substitute setting; four bytes to each byte of the frame are
 -- always space enough (`room-enough`)
 abbrev pub toUtf8 : Table → List ℕ → Run
-toUtf8 t frame = toRun utf8 t (substituting false) frame (4 * length frame)
+toUtf8 t frame = toRun Utf8 t (substituting false) frame (4 * length frame)
 
 -- a line for each line of the input: number, bytes read, output; or `BAD FRAME` where it is malformed or has more than
 -- 4,096 bytes

@@ -9,6 +9,7 @@ use mathlib.Core.Option.{Option, none, some}
 use lib.Dec.{leb, eqb}
 use lib.ListN.{length, drop}
 use Rattle.lists.specs.Pick.{if_then_else_}
+use Rattle.unicode.specs.declared.scheme.Scheme.the-variants.{Utf8}
 use Rattle.table.specs.Limits.{limits}
 use Rattle.table.specs.Slices.{Slices}
 use Rattle.table.specs.Numbers.{refusalNumber}
@@ -17,7 +18,7 @@ use Rattle.table.specs.declared.load.Answer.the-variants.{Accepted, Refused}
 use Rattle.table.specs.declared.load.Loaded.{Loaded}
 use Rattle.table.specs.declared.valid.Record.{Record}
 use Rattle.convert.specs.Run.{Run, endNumber}
-use Rattle.convert.specs.Step.{utf8, substituting}
+use Rattle.convert.specs.Step.{substituting}
 use Rattle.convert.specs.Convert.{toTested}
 use Rattle.frames.specs.Lines.{fixedLine, badFrame, okLine, refusedLine, answerLine, parsed}
 use Rattle.frames.specs.Stream.{InputLine, whole, tooLong, PieceStep, ended, unended, pieceStep, keptIn}
@@ -38,7 +39,7 @@ tableLine l = lineFor l (l .answer)
 
 -- its conversion: substitute on, space for four bytes to each byte of the longest frame
 unfoldable pub convertIn : Record → Slices → List ℕ → Run
-convertIn rec m s = toTested utf8 limits rec m (substituting false) s 16384
+convertIn rec m s = toTested Utf8 limits rec m (substituting false) s 16384
 
 -- the line of a frame, by its bytes: number, bytes read, output; or BAD FRAME
 abbrev pub frameLine : (List ℕ → Run) → Option (List ℕ) → List ℕ

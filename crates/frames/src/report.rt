@@ -7,6 +7,7 @@ use crate::lines::Taken;
 use table::load::Answer;
 use table::load::Loaded;
 use table::valid::Record;
+use unicode::scheme::Scheme;
 ghost use mathlib.Core.Path.{_≡_};
 ghost use mathlib.Core.Option.{some};
 ghost use Prim.Native.Nat.{_≤_, _<_};
@@ -48,7 +49,17 @@ fn report_frame(
         let shown = frameLine (convertIn rec m) (some (now (frame .entry))) in
         Puts (now (out .entry)) at shown r (now (out .exit))) ⌝ }
 {
-    let done = convert::to_utf8(rec, states, codes, infos, order, frame, text, SETTINGS);
+    let done = convert::to_unicode(
+        rec,
+        states,
+        codes,
+        infos,
+        order,
+        frame,
+        text,
+        SETTINGS,
+        Scheme::Utf8,
+    );
     let end = done.end;
     let written = done.written;
     lines::put_answer(

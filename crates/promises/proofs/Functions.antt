@@ -4,8 +4,8 @@ use Rattle.table.proofs.load.load.Met as load
 use Rattle.table.proofs.valid.memory_valid.Met as memory-valid
 use Rattle.table.proofs.lookup.find_code.Met as find-code
 use Rattle.table.proofs.lookup.find_point.Met as find-point
-use Rattle.convert.proofs.to_utf8.Met as to-utf8
-use Rattle.convert.proofs.from_utf8.Met as from-utf8
+use Rattle.convert.proofs.to_unicode.Met as to-unicode
+use Rattle.convert.proofs.from_unicode.Met as from-unicode
 use Rattle.audit.proofs.audit.Met as audit
 use Rattle.frames.proofs.report.report_table.Met as report-table
 use Rattle.frames.proofs.report.report_frames.Met as report-frames
@@ -14,7 +14,9 @@ use Rattle.frames.proofs.pages.list_codes.Met as list-codes
 use Rattle.frames.proofs.pages.report_closing.Met as report-closing
 use Rattle.cabi.proofs.oboepond_load.Met as oboepond-load
 use Rattle.cabi.proofs.oboepond_check.Met as oboepond-check
+use Rattle.cabi.proofs.oboepond_to_unicode.Met as oboepond-to-unicode
 use Rattle.cabi.proofs.oboepond_to_utf8.Met as oboepond-to-utf8
+use Rattle.cabi.proofs.oboepond_from_unicode.Met as oboepond-from-unicode
 use Rattle.cabi.proofs.oboepond_from_utf8.Met as oboepond-from-utf8
 use Rattle.cabi.proofs.oboepond_audit.Met as oboepond-audit
 
@@ -25,8 +27,8 @@ ask-nothing =
       memory-valid-asks = λ κs args. tt;
       find-code-asks = λ κs args. tt;
       find-point-asks = λ κs args. tt;
-      to-utf8-asks = λ κs args. tt;
-      from-utf8-asks = λ κs args. tt;
+      to-unicode-asks = λ κs args. tt;
+      from-unicode-asks = λ κs args. tt;
       audit-asks = λ κs args. tt;
       report-table-asks = λ κs args. tt;
       report-frames-asks = λ κs args. tt;
@@ -35,7 +37,9 @@ ask-nothing =
       report-closing-asks = λ κs args. tt;
       oboepond-load-asks = λ κs args. tt;
       oboepond-check-asks = λ κs args. tt;
+      oboepond-to-unicode-asks = λ κs args. tt;
       oboepond-to-utf8-asks = λ κs args. tt;
+      oboepond-from-unicode-asks = λ κs args. tt;
       oboepond-from-utf8-asks = λ κs args. tt;
       oboepond-audit-asks = λ κs args. tt;
     }
@@ -47,8 +51,8 @@ meet-theirs M =
       memory-valid = memory-valid.met;
       find-code = find-code.met;
       find-point = find-point.met;
-      to-utf8 = to-utf8.met;
-      from-utf8 = from-utf8.met;
+      to-unicode = to-unicode.met;
+      from-unicode = from-unicode.met;
       audit = audit.met;
       report-table = report-table.met;
       report-frames = report-frames.met;
@@ -57,7 +61,9 @@ meet-theirs M =
       report-closing = report-closing.met;
       oboepond-load = oboepond-load.met;
       oboepond-check = oboepond-check.met;
+      oboepond-to-unicode = oboepond-to-unicode.met;
       oboepond-to-utf8 = oboepond-to-utf8.met;
+      oboepond-from-unicode = oboepond-from-unicode.met;
       oboepond-from-utf8 = oboepond-from-utf8.met;
       oboepond-audit = oboepond-audit.met;
     }

@@ -1,12 +1,10 @@
 -- EVERYTHING THAT IS PROMISED, PROVED: `promises`, one theorem, from the theorems of the crates.
-use Prim.Native.Nat.{ℕ}
-use mathlib.Core.Path.{_≡_, sym, ap, _∙_, subst}
+use mathlib.Core.Path.{_≡_, sym, _∙_}
 use mathlib.Core.Logic.{_↔_}
-use mathlib.Core.Bool.{true, false}
+use mathlib.Core.Bool.{true}
 use Rattle.table.specs.Limits.{limits}
 use Rattle.table.specs.Meaning.{Table, stepsOf}
 use Rattle.table.specs.Forms.{FormOf, SameTable, SameMemory}
-use Rattle.table.specs.Valid.{valid}
 use Rattle.table.proofs.Cuts.{no-ends-zero}
 use Rattle.table.proofs.CodeList.{prefix-free}
 use Rattle.table.proofs.TextRead as text
@@ -15,13 +13,13 @@ use Rattle.table.proofs.ValidLaws.{valid-form, form-valid}
 use Rattle.table.proofs.ValidLaws as forms
 use Rattle.unicode.proofs.RoundTrip.{utf8-encode-decode}
 use Rattle.unicode.proofs.WellFormed.{decodes-well-formed, cut-short-begins}
-use Rattle.convert.proofs.CompleteCodes as codes
+use Rattle.unicode.proofs.FourBytes.{utf32-decodes, utf32-encode-decode, utf32-cut-short, utf32-illegal}
 use Rattle.audit.proofs.Causes as causes
 use Rattle.audit.proofs.Starred.{starred}
 use Rattle.frames.proofs.OutputCases.{k-whole, no-table}
 use Rattle.promises.specs.Calls.{LoadCall, AcceptedAs, leftAfter, ValidCall, recordTested, slicesTested}
 use Rattle.promises.specs.Words.{Words}
-use Rattle.promises.specs.Promises.{Demand1, Demand2, Demand3, TheProgram, Promises}
+use Rattle.promises.specs.Promises.{Demand1, Demand2, Demand3, Promises}
 use Rattle.promises.proofs.Functions.{ask-nothing, meet-theirs}
 use Rattle.promises.proofs.LoadCalls as load
 use Rattle.promises.proofs.Refusals as refusals
@@ -89,7 +87,17 @@ demand2 =
       utf8-decodes = decodes-well-formed;
       utf8-encodes = utf8-encode-decode;
       utf8-cut-short = cut-short-begins;
-      writes-utf8 = conversions.writes-utf8;
+      utf32-decodes = utf32-decodes;
+      utf32-encodes = utf32-encode-decode;
+      utf32-cut-short = utf32-cut-short;
+      utf32-illegal = utf32-illegal;
+      plain-written = conversions.plain-written;
+      plain-full = conversions.plain-full;
+      plain-marked = conversions.plain-marked;
+      plain-unmarked = conversions.plain-unmarked;
+      writes-text = conversions.writes-text;
+      reads-back = conversions.reads-back;
+      reads-back-whole = conversions.reads-back-whole;
       prefix-free = λ t s r i j. prefix-free (stepsOf t) (no-ends-zero (t .rows)) 4 0 s r i j;
       room-enough = conversions.room-enough;
       to-more-space = conversions.to-more-space;

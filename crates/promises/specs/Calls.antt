@@ -8,6 +8,7 @@ use mathlib.Core.List.{List}
 use lib.ListN.{length, take}
 use borrow.Fn.Kinds.{Out}
 use denote.Ref.{now}
+use Rattle.unicode.specs.declared.scheme.Scheme.{Scheme}
 use Rattle.table.specs.Limits.{limits}
 use Rattle.table.specs.Meaning.{Table}
 use Rattle.table.specs.Grammar.{TableText}
@@ -24,9 +25,9 @@ use Rattle.table.proofs.lookup.find_code.Reads as find-code
 use Rattle.table.proofs.lookup.find_code.Kinds as of-find-code
 use Rattle.table.proofs.lookup.find_point.Reads as find-point
 use Rattle.table.proofs.lookup.find_point.Kinds as of-find-point
-use Rattle.convert.proofs.to_utf8.Reads as to-utf8
-use Rattle.convert.proofs.to_utf8.Kinds as of-to-utf8
-use Rattle.convert.proofs.from_utf8.Reads as from-utf8
+use Rattle.convert.proofs.to_unicode.Reads as to-unicode
+use Rattle.convert.proofs.to_unicode.Kinds as of-to-unicode
+use Rattle.convert.proofs.from_unicode.Reads as from-unicode
 use Rattle.audit.proofs.audit.Reads as audit
 use Rattle.audit.proofs.audit.Kinds as of-audit
 use Rattle.promises.specs.Called.{Called}
@@ -78,18 +79,18 @@ CodeCall = Called 2 of-find-code.ps of-find-code.r find-code.Post
 abbrev pub PointCall : Type 1
 PointCall = Called 3 of-find-point.ps of-find-point.r find-point.Post
 
--- ## `to_utf8`, `from_utf8`: the two conversions, of one signature
+-- ## `to_unicode`, `from_unicode`: the two conversions, of one signature
 
-abbrev pub ConversionCall : Out 6 of-to-utf8.ps of-to-utf8.r → Type 1
-ConversionCall Post = Called 6 of-to-utf8.ps of-to-utf8.r Post
+abbrev pub ConversionCall : Out 6 of-to-unicode.ps of-to-unicode.r → Type 1
+ConversionCall Post = Called 6 of-to-unicode.ps of-to-unicode.r Post
 
 abbrev pub ToCall : Type 1
-ToCall = ConversionCall to-utf8.Post
+ToCall = ConversionCall to-unicode.Post
 
 abbrev pub FromCall : Type 1
-FromCall = ConversionCall from-utf8.Post
+FromCall = ConversionCall from-unicode.Post
 
-module _ {Post : Out 6 of-to-utf8.ps of-to-utf8.r} where
+module _ {Post : Out 6 of-to-unicode.ps of-to-unicode.r} where
   abbrev pub recordGiven : ConversionCall Post → Record
   recordGiven c = c .args .0
 
@@ -109,6 +110,9 @@ module _ {Post : Out 6 of-to-utf8.ps of-to-utf8.r} where
 
   abbrev pub settingsOf : ConversionCall Post → Settings
   settingsOf c = c .args .1 .1 .1 .1 .1 .1 .1 .0
+
+  abbrev pub schemeOf : ConversionCall Post → Scheme
+  schemeOf c = c .args .1 .1 .1 .1 .1 .1 .1 .1 .0
 
   -- the bytes that it wrote
   abbrev pub writtenBy : ConversionCall Post → List ℕ

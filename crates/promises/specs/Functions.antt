@@ -15,12 +15,12 @@ use Rattle.table.proofs.lookup.find_code.Statement as find-code-meets
 use Rattle.table.proofs.lookup.find_point.Reads as find-point
 use Rattle.table.proofs.lookup.find_point.Kinds as of-find-point
 use Rattle.table.proofs.lookup.find_point.Statement as find-point-meets
-use Rattle.convert.proofs.to_utf8.Reads as to-utf8
-use Rattle.convert.proofs.to_utf8.Kinds as of-to-utf8
-use Rattle.convert.proofs.to_utf8.Statement as to-utf8-meets
-use Rattle.convert.proofs.from_utf8.Reads as from-utf8
-use Rattle.convert.proofs.from_utf8.Kinds as of-from-utf8
-use Rattle.convert.proofs.from_utf8.Statement as from-utf8-meets
+use Rattle.convert.proofs.to_unicode.Reads as to-unicode
+use Rattle.convert.proofs.to_unicode.Kinds as of-to-unicode
+use Rattle.convert.proofs.to_unicode.Statement as to-unicode-meets
+use Rattle.convert.proofs.from_unicode.Reads as from-unicode
+use Rattle.convert.proofs.from_unicode.Kinds as of-from-unicode
+use Rattle.convert.proofs.from_unicode.Statement as from-unicode-meets
 use Rattle.audit.proofs.audit.Reads as audit
 use Rattle.audit.proofs.audit.Kinds as of-audit
 use Rattle.audit.proofs.audit.Statement as audit-meets
@@ -45,9 +45,15 @@ use Rattle.cabi.proofs.oboepond_load.Statement as oboepond-load-meets
 use Rattle.cabi.proofs.oboepond_check.Reads as oboepond-check
 use Rattle.cabi.proofs.oboepond_check.Kinds as of-oboepond-check
 use Rattle.cabi.proofs.oboepond_check.Statement as oboepond-check-meets
+use Rattle.cabi.proofs.oboepond_to_unicode.Reads as oboepond-to-unicode
+use Rattle.cabi.proofs.oboepond_to_unicode.Kinds as of-oboepond-to-unicode
+use Rattle.cabi.proofs.oboepond_to_unicode.Statement as oboepond-to-unicode-meets
 use Rattle.cabi.proofs.oboepond_to_utf8.Reads as oboepond-to-utf8
 use Rattle.cabi.proofs.oboepond_to_utf8.Kinds as of-oboepond-to-utf8
 use Rattle.cabi.proofs.oboepond_to_utf8.Statement as oboepond-to-utf8-meets
+use Rattle.cabi.proofs.oboepond_from_unicode.Reads as oboepond-from-unicode
+use Rattle.cabi.proofs.oboepond_from_unicode.Kinds as of-oboepond-from-unicode
+use Rattle.cabi.proofs.oboepond_from_unicode.Statement as oboepond-from-unicode-meets
 use Rattle.cabi.proofs.oboepond_from_utf8.Reads as oboepond-from-utf8
 use Rattle.cabi.proofs.oboepond_from_utf8.Kinds as of-oboepond-from-utf8
 use Rattle.cabi.proofs.oboepond_from_utf8.Statement as oboepond-from-utf8-meets
@@ -61,8 +67,8 @@ pub record AskNothing : Type 1 where
   pub memory-valid-asks : (κs : Lfts 4) (args : Dens κs of-memory-valid.ps) → memory-valid.Pre κs args
   pub find-code-asks : (κs : Lfts 2) (args : Dens κs of-find-code.ps) → find-code.Pre κs args
   pub find-point-asks : (κs : Lfts 3) (args : Dens κs of-find-point.ps) → find-point.Pre κs args
-  pub to-utf8-asks : (κs : Lfts 6) (args : Dens κs of-to-utf8.ps) → to-utf8.Pre κs args
-  pub from-utf8-asks : (κs : Lfts 6) (args : Dens κs of-from-utf8.ps) → from-utf8.Pre κs args
+  pub to-unicode-asks : (κs : Lfts 6) (args : Dens κs of-to-unicode.ps) → to-unicode.Pre κs args
+  pub from-unicode-asks : (κs : Lfts 6) (args : Dens κs of-from-unicode.ps) → from-unicode.Pre κs args
   pub audit-asks : (κs : Lfts 5) (args : Dens κs of-audit.ps) → audit.Pre κs args
   pub report-table-asks : (κs : Lfts 1) (args : Dens κs of-report-table.ps) → report-table.Pre κs args
   pub report-frames-asks : (κs : Lfts 7) (args : Dens κs of-report-frames.ps) → report-frames.Pre κs args
@@ -71,7 +77,11 @@ pub record AskNothing : Type 1 where
   pub report-closing-asks : (κs : Lfts 1) (args : Dens κs of-report-closing.ps) → report-closing.Pre κs args
   pub oboepond-load-asks : (κs : Lfts 6) (args : Dens κs of-oboepond-load.ps) → oboepond-load.Pre κs args
   pub oboepond-check-asks : (κs : Lfts 5) (args : Dens κs of-oboepond-check.ps) → oboepond-check.Pre κs args
+  pub oboepond-to-unicode-asks : (κs : Lfts 8) (args : Dens κs of-oboepond-to-unicode.ps)
+      → oboepond-to-unicode.Pre κs args
   pub oboepond-to-utf8-asks : (κs : Lfts 8) (args : Dens κs of-oboepond-to-utf8.ps) → oboepond-to-utf8.Pre κs args
+  pub oboepond-from-unicode-asks : (κs : Lfts 8) (args : Dens κs of-oboepond-from-unicode.ps)
+      → oboepond-from-unicode.Pre κs args
   pub oboepond-from-utf8-asks : (κs : Lfts 8) (args : Dens κs of-oboepond-from-utf8.ps) → oboepond-from-utf8.Pre κs args
   pub oboepond-audit-asks : (κs : Lfts 7) (args : Dens κs of-oboepond-audit.ps) → oboepond-audit.Pre κs args
 
@@ -81,8 +91,8 @@ pub record MeetTheirs (M : Type 1) : Type 2 where
   pub memory-valid : memory-valid-meets.statement M
   pub find-code : find-code-meets.statement M
   pub find-point : find-point-meets.statement M
-  pub to-utf8 : to-utf8-meets.statement M
-  pub from-utf8 : from-utf8-meets.statement M
+  pub to-unicode : to-unicode-meets.statement M
+  pub from-unicode : from-unicode-meets.statement M
   pub audit : audit-meets.statement M
   pub report-table : report-table-meets.statement M
   pub report-frames : report-frames-meets.statement M
@@ -91,6 +101,8 @@ pub record MeetTheirs (M : Type 1) : Type 2 where
   pub report-closing : report-closing-meets.statement M
   pub oboepond-load : oboepond-load-meets.statement M
   pub oboepond-check : oboepond-check-meets.statement M
+  pub oboepond-to-unicode : oboepond-to-unicode-meets.statement M
   pub oboepond-to-utf8 : oboepond-to-utf8-meets.statement M
+  pub oboepond-from-unicode : oboepond-from-unicode-meets.statement M
   pub oboepond-from-utf8 : oboepond-from-utf8-meets.statement M
   pub oboepond-audit : oboepond-audit-meets.statement M

@@ -1,19 +1,24 @@
 -- EVERYTHING THAT IS PROMISED, as one record over calls of the public functions: the three demands, clause by clause,
 -- the starred cases, and the program. It is proved whole as `promises` in proofs/Promises.antt; docs/PROMISES.md goes
 -- through its fields.
-use Prim.Native.Nat.{ℕ, _+_, _*_, _<_, _≤_}
+use Prim.Native.Nat.{ℕ, _+_, _-_, _*_, _<_, _≤_}
 use mathlib.Core.Path.{_≡_}
-use mathlib.Core.Logic.{_↔_, _⊎_}
+use mathlib.Core.Logic.{_↔_}
 use mathlib.Core.Bool.{Bool, true, false}
 use mathlib.Core.Option.{none, some}
 use mathlib.Core.List.{List, [], _++_, map}
-use lib.ListN.{length, getD}
+use lib.ListN.{length}
 use Rattle.lists.specs.Ascii.{ascii}
-use Rattle.lists.specs.Order.{In}
+use Rattle.lists.specs.Order.{All, In}
 use Rattle.unicode.specs.Utf8.{Scalar, decodeOne, encodeOf}
 use Rattle.unicode.specs.WellFormed.{StartsWith, Begins}
+use Rattle.unicode.specs.Utf32.{wordIn, encodeIn, decodeIn, markIn}
+use Rattle.unicode.specs.Scheme.{orderedBy}
 use Rattle.unicode.specs.declared.utf8.Sequence.the-variants as sequence
 use Rattle.unicode.specs.declared.utf8.Stop.the-variants as stopped
+use Rattle.unicode.specs.declared.utf32.ByteOrder.{ByteOrder}
+use Rattle.unicode.specs.declared.utf32.ByteOrder.the-variants.{Big}
+use Rattle.unicode.specs.declared.scheme.Scheme.the-variants.{Utf32Be, Utf32}
 use Rattle.table.specs.Limits.{Limits, limits}
 use Rattle.table.specs.States.{isCode, endKind}
 use Rattle.table.specs.Codes.{AllByte}
@@ -30,11 +35,13 @@ use Rattle.table.specs.TableK.{kText}
 use Rattle.table.specs.declared.load.Answer.the-variants.{Accepted, Refused}
 use Rattle.table.specs.declared.load.Refusal.{Refusal}
 use Rattle.table.specs.declared.load.Refusal.the-variants as refusal
-use Rattle.convert.specs.Run.{endedWith}
-use Rattle.convert.specs.Step.{utf8, code, writes, strict}
-use Rattle.convert.specs.Convert.{toRun, fromRun, toTested, fromTested}
-use Rattle.convert.specs.Claims.{WellFormedText, RoundTripCode, frameOf, RoundTrips}
+use Rattle.convert.specs.Run.{after, endedWith}
+use Rattle.convert.specs.Step.{code, writes, strict}
+use Rattle.convert.specs.Convert.{markOf, toRun, fromRun, toTested, fromTested}
+use Rattle.convert.specs.Claims.{WellFormedText, pointsIn, ReadsAs, ReadsAsFirst}
+use Rattle.convert.specs.Claims.{RoundTripCode, frameOf, RoundTrips}
 use Rattle.convert.specs.declared.RunEnd.the-variants.{AllRead, OutputFull, BadTable}
+use Rattle.convert.specs.declared.Settings.{Settings}
 use Rattle.audit.specs.Audit.{causeOf, completeCodes, entryNumber, auditTested, refused}
 use Rattle.audit.specs.Demand.{InTurn, Claims}
 use Rattle.audit.specs.Cases.{Starred}
@@ -45,7 +52,7 @@ use Rattle.promises.specs.Calls.{LoadCall, textOf, lentTo, leftAfter, Ma
 use Rattle.promises.specs.Calls.{recordTested, slicesTested}
 use Rattle.promises.specs.Calls.{CodeCall, PointCall, ToCall, FromCall, recordGiven, slicesGiven, inputOf}
 use Rattle.promises.specs.Calls.{outputLent, outputAfter}
-use Rattle.promises.specs.Calls.{settingsOf, writtenBy, AuditFunctionCall, recordAudited, slicesAudited}
+use Rattle.promises.specs.Calls.{settingsOf, schemeOf, writtenBy, AuditFunctionCall, recordAudited, slicesAudited}
 use Rattle.promises.specs.Calls.{fallbackOf, positionOf}
 use Rattle.promises.specs.Calls.{allowanceOf, spaceLent, spaceAfterwards}
 use Rattle.promises.specs.Words.{RefusedFor, AllZeroed, SameBeyond, Words, AnswersBy, OnLoaded, AuditsBy}
@@ -87,13 +94,13 @@ pub record Demand1 : Type 2 where
       ↔ Keyed (N15 (lim .rows) (length (r .rows))) (r .phase) s
   -- `memory_valid`: the test behind 60, on any record and memory
   pub valid-answers : (c : ValidCall) → c .result ≡ valid limits (recordTested c) (slicesTested c)
-  -- `to_utf8`, `from_utf8`: on any record, memory, bytes and output; 60 reads and writes nothing
+  -- `to_unicode`, `from_unicode`: on any record, memory, bytes, output and scheme; 60 reads and writes nothing
   pub to-answers : (c : ToCall)
       → let room = length (outputLent c) in
-      AnswersBy (toTested utf8 limits (recordGiven c) (slicesGiven c) (settingsOf c) (inputOf c) room) c
+      AnswersBy (toTested (schemeOf c) limits (recordGiven c) (slicesGiven c) (settingsOf c) (inputOf c) room) c
   pub from-answers : (c : FromCall)
       → let room = length (outputLent c) in
-      AnswersBy (fromTested utf8 limits (recordGiven c) (slicesGiven c) (settingsOf c) (inputOf c) room) c
+      AnswersBy (fromTested (schemeOf c) limits (recordGiven c) (slicesGiven c) (settingsOf c) (inputOf c) room) c
   pub to-refuses : (c : ToCall) → valid limits (recordGiven c) (slicesGiven c) ≡ false
       → AnswersBy (endedWith BadTable 0) c × (outputAfter c ≡ outputLent c)
   pub from-refuses : (c : FromCall) → valid limits (recordGiven c) (slicesGiven c) ≡ false
@@ -110,7 +117,8 @@ pub record Demand1 : Type 2 where
   pub code-found : (c : CodeCall) → FindsCode c
   pub point-found : (c : PointCall) → FindsPoint c
 
--- DEMAND 2: accepted exactly when the rules are kept; conversion by the table and RFC 3629
+-- DEMAND 2: accepted exactly when the rules are kept; conversion by the table, in UTF-8 (RFC 3629) or UTF-32 (source
+-- document 002)
 pub record Demand2 : Type 1 where
   -- a text that may be loaded is accepted exactly when it is of the grammar and its rows and lines keep T1 to T9
   pub accepted-exactly : (c : LoadCall) → MayLoad c
@@ -131,38 +139,71 @@ pub record Demand2 : Type 1 where
   -- the test behind 60 holds exactly where some table that keeps the rules has this record and memory as its form
   pub valid-exactly : (c : ValidCall) → Words (recordTested c) (slicesTested c)
       → (c .result ≡ true) ↔ FormOf limits (recordTested c) (slicesTested c)
-  -- on what the load of a text left, the conversions go by that text's own rows and lines
+  -- on what the load of a text left, the conversions go by that text's own rows and lines, in every scheme
   pub to-by-text : (l : LoadCall) (t : Table) → AcceptedAs l t → (c : ToCall) → OnLoaded l c
-      → AnswersBy (toRun utf8 t (settingsOf c) (inputOf c) (length (outputLent c))) c
+      → AnswersBy (toRun (schemeOf c) t (settingsOf c) (inputOf c) (length (outputLent c))) c
   pub from-by-text : (l : LoadCall) (t : Table) → AcceptedAs l t → (c : FromCall) → OnLoaded l c
-      → AnswersBy (fromRun utf8 t (settingsOf c) (inputOf c) (length (outputLent c))) c
+      → AnswersBy (fromRun (schemeOf c) t (settingsOf c) (inputOf c) (length (outputLent c))) c
   -- UTF-8 is RFC 3629's: what decodes is a well-formed sequence and its value, the encoding of a scalar value decodes,
   -- 51 is a proper beginning
   pub utf8-decodes : (s : List ℕ) (c n : ℕ) → (decodeOne s ≡ sequence.Scalar c n) ↔ StartsWith s c n
   pub utf8-encodes : (c : ℕ) (rest : List ℕ) → Scalar c
       → decodeOne (encodeOf c ++ rest) ≡ sequence.Scalar c (length (encodeOf c))
   pub utf8-cut-short : (s : List ℕ) → (decodeOne s ≡ sequence.Stopped stopped.CutShort) ↔ Begins s
-  -- what is written towards UTF-8 is well-formed
-  pub writes-utf8 : (l : LoadCall) (t : Table) → AcceptedAs l t → (c : ToCall) → OnLoaded l c
-      → WellFormedText (writtenBy c)
+  -- UTF-32 in either byte order is source document 002's: what decodes is the four bytes of a scalar value, the
+  -- encoding of a scalar value decodes, 51 is fewer than four bytes, 52 any other number (surrogates, above 10FFFF)
+  pub utf32-decodes : (order : ByteOrder) (s : List ℕ) (c n : ℕ) → All (λ b. b < 256) s
+      → (decodeIn order s ≡ sequence.Scalar c n)
+      ↔ ((n ≡ 4) × Scalar c × ((rest : List ℕ) × (s ≡ encodeIn order c ++ rest)))
+  pub utf32-encodes : (order : ByteOrder) (c : ℕ) (rest : List ℕ) → Scalar c
+      → decodeIn order (encodeIn order c ++ rest) ≡ sequence.Scalar c (length (encodeIn order c))
+  pub utf32-cut-short : (order : ByteOrder) (s : List ℕ)
+      → (decodeIn order s ≡ sequence.Stopped stopped.CutShort) ↔ (length s < 4)
+  pub utf32-illegal : (order : ByteOrder) (s : List ℕ)
+      → (decodeIn order s ≡ sequence.Stopped (stopped.Illegal 4))
+      ↔ ((4 ≤ length s) × (Scalar (wordIn order s) → ⊥))
+  -- plain UTF-32, written: the mark, then what the big-endian scheme has; with no space for the mark 50, whatever the
+  -- input
+  pub plain-written : (t : Table) (settings : Settings) (s : List ℕ) (room : ℕ) → 4 ≤ room
+      → toRun Utf32 t settings s room ≡ after 0 (markIn Big) (toRun Utf32Be t settings s (room - 4))
+  pub plain-full : (t : Table) (settings : Settings) (s : List ℕ) (room : ℕ) → room < 4
+      → toRun Utf32 t settings s room ≡ endedWith OutputFull 0
+  -- plain UTF-32, read: behind a mark as the scheme of its order; else as the big-endian scheme
+  pub plain-marked : (t : Table) (settings : Settings) (order : ByteOrder) (s : List ℕ) (room : ℕ)
+      → fromRun Utf32 t settings (markIn order ++ s) room ≡ after 4 [] (fromRun (orderedBy order) t settings s room)
+  pub plain-unmarked : (t : Table) (settings : Settings) (s : List ℕ) (room : ℕ) → All (λ b. b < 256) s
+      → ((order : ByteOrder) (rest : List ℕ) → s ≡ markIn order ++ rest → ⊥)
+      → fromRun Utf32 t settings s room ≡ fromRun Utf32Be t settings s room
+  -- what is written towards Unicode is well-formed in its scheme, and read in that scheme it is the first of the
+  -- input's code points, or all of them unless the answer was 50; a mark is none of them
+  pub writes-text : (l : LoadCall) (t : Table) → AcceptedAs l t → (c : ToCall) → OnLoaded l c
+      → WellFormedText (schemeOf c) (writtenBy c)
+  pub reads-back : (l : LoadCall) (t : Table) → AcceptedAs l t → (c : ToCall) → OnLoaded l c
+      → ReadsAsFirst (schemeOf c) (writtenBy c) (pointsIn t (settingsOf c) (inputOf c))
+  pub reads-back-whole : (l : LoadCall) (t : Table) → AcceptedAs l t → (c : ToCall) → OnLoaded l c
+      → (c .result .end ≡ OutputFull → ⊥)
+      → ReadsAs (schemeOf c) (writtenBy c) (pointsIn t (settingsOf c) (inputOf c))
   -- no complete code begins another
   pub prefix-free : (t : Table) (s r : List ℕ) → In s (completeCodes t) → In (s ++ r) (completeCodes t) → r ≡ []
-  -- space for four bytes to each byte of the input is always enough towards UTF-8
+  -- space for the mark and four bytes to each byte of the input is always enough towards Unicode
   pub room-enough : (l : LoadCall) (t : Table) → AcceptedAs l t → (c : ToCall) → OnLoaded l c
-      → 4 * length (inputOf c) ≤ length (outputLent c) → c .result .end ≡ OutputFull → ⊥
+      → length (markOf (schemeOf c)) + 4 * length (inputOf c) ≤ length (outputLent c)
+      → c .result .end ≡ OutputFull → ⊥
   -- more space changes nothing unless the answer was 50
   pub to-more-space : (l : LoadCall) (t : Table) → AcceptedAs l t → (c d : ToCall) → OnLoaded l c → OnLoaded l d
-      → inputOf d ≡ inputOf c → settingsOf d ≡ settingsOf c → length (outputLent c) ≤ length (outputLent d)
+      → inputOf d ≡ inputOf c → settingsOf d ≡ settingsOf c → schemeOf d ≡ schemeOf c
+      → length (outputLent c) ≤ length (outputLent d)
       → (c .result .end ≡ OutputFull → ⊥) → (d .result ≡ c .result) × (writtenBy d ≡ writtenBy c)
   pub from-more-space : (l : LoadCall) (t : Table) → AcceptedAs l t → (c d : FromCall) → OnLoaded l c → OnLoaded l d
-      → inputOf d ≡ inputOf c → settingsOf d ≡ settingsOf c → length (outputLent c) ≤ length (outputLent d)
+      → inputOf d ≡ inputOf c → settingsOf d ≡ settingsOf c → schemeOf d ≡ schemeOf c
+      → length (outputLent c) ≤ length (outputLent d)
       → (c .result .end ≡ OutputFull → ⊥) → (d .result ≡ c .result) × (writtenBy d ≡ writtenBy c)
-  -- a frame of codes that round-trip, converted and converted back with space enough for each, is itself
+  -- a frame of codes that round-trip, converted and converted back in one scheme with space enough for each, is itself
   pub there-and-back : (l : LoadCall) (t : Table) → AcceptedAs l t → (c : ToCall) (d : FromCall) → OnLoaded l c
       → OnLoaded l d
-      → settingsOf d ≡ settingsOf c → (codes : List (RoundTripCode t (settingsOf c .fallback)))
-      → inputOf c ≡ frameOf codes
-      → 4 * length (inputOf c) ≤ length (outputLent c) → inputOf d ≡ writtenBy c
+      → settingsOf d ≡ settingsOf c → schemeOf d ≡ schemeOf c
+      → (codes : List (RoundTripCode t (settingsOf c .fallback))) → inputOf c ≡ frameOf codes
+      → length (markOf (schemeOf c)) + 4 * length (inputOf c) ≤ length (outputLent c) → inputOf d ≡ writtenBy c
       → length (inputOf c) ≤ length (outputLent d)
       → writtenBy d ≡ inputOf c
 
@@ -175,12 +216,13 @@ pub record Demand3 : Type 1 where
       → InTurn (l .result .table) (leftAfter l) fallback (map callOf cs) → Claims t fallback entryNumber (map callOf cs)
   -- a code has cause 0 exactly when it round-trips (document 01: comes home), by the text's lines
   pub cause-zero : (t : Table) (fallback : Bool) (c : List ℕ) → (causeOf t fallback c ≡ 0) ↔ RoundTrips t fallback c
-  -- and that is what the two strict conversions show, with space for a code each
+  -- and that is what the two strict conversions show, in any scheme, with space for a code each
   pub home-by-calls : (l : LoadCall) (t : Table) → AcceptedAs l t → (fallback : Bool) (s : List ℕ) → AllByte s
       → isCode (stepsOf t) 0 s ≡ true
       → (c : ToCall) (d : FromCall) → OnLoaded l c → OnLoaded l d → settingsOf c ≡ strict fallback
-      → settingsOf d ≡ strict fallback
-      → inputOf c ≡ s → inputOf d ≡ writtenBy c → 4 ≤ length (outputLent c) → 4 ≤ length (outputLent d)
+      → settingsOf d ≡ strict fallback → schemeOf d ≡ schemeOf c
+      → inputOf c ≡ s → inputOf d ≡ writtenBy c
+      → length (markOf (schemeOf c)) + 4 ≤ length (outputLent c) → 4 ≤ length (outputLent d)
       → RoundTrips t fallback s ↔ ((c .result .end ≡ AllRead) × (d .result .end ≡ AllRead) × (writtenBy d ≡ s))
   -- the causes otherwise, the lowest that holds: ended by `u`; no line reads it; written as another code; not written
   pub cause-one : (t : Table) (fallback : Bool) (c : List ℕ) → (RoundTrips t fallback c → ⊥)

@@ -1,6 +1,6 @@
 -- Words of the promises: what a call of `load` refuses for, what a refusal leaves, and what a call answers by a
 -- definition.
-use Prim.Native.Nat.{ℕ, _<_, _≤_}
+use Prim.Native.Nat.{ℕ, _<_}
 use mathlib.Core.Path.{_≡_}
 use mathlib.Core.Logic.{_⊎_}
 use mathlib.Core.List.{List, _++_}
@@ -19,7 +19,7 @@ use Rattle.table.specs.declared.valid.Record.{Record}
 use Rattle.table.specs.declared.load.Refusal.{Refusal}
 use Rattle.table.specs.declared.load.Refusal.the-variants as refusal
 use Rattle.convert.specs.Run.{Run, convertedOf, putOut, endNumber, runNumber}
-use Rattle.convert.proofs.to_utf8.Kinds as of-to-utf8
+use Rattle.convert.proofs.to_unicode.Kinds as of-to-unicode
 use Rattle.audit.specs.Audit.{Answer, endingNumber, auditNumber, auditedOf, spaceAfter}
 use Rattle.audit.specs.Demand.{AuditCall}
 use Rattle.audit.specs.declared.Audited.{Audited}
@@ -82,7 +82,7 @@ FindsPoint c =
 
 -- a call answers by this run: how it ended, bytes read and written, the number; the output slice has the bytes in
 -- front and keeps the rest
-module _ {Post : Out 6 of-to-utf8.ps of-to-utf8.r} where
+module _ {Post : Out 6 of-to-unicode.ps of-to-unicode.r} where
   pub record AnswersBy (run : Run) (c : ConversionCall Post) : Type 0 where
     pub result : c .result ≡ convertedOf run
     pub output : outputAfter c ≡ putOut run (outputLent c)

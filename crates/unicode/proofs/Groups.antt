@@ -7,7 +7,7 @@ use lib.Bits.{bitOr, or-shifted}
 use lib.Dec.{lit≤, ltb}
 use lib.Pow.{shl-exact, shr-shr}
 use Rattle.lists.proofs.Cases.{pick-case}
-use Rattle.unicode.specs.Utf8.{markOf, trailCount, trailByte, leadByte}
+use Rattle.unicode.specs.Utf8.{leadMark, trailCount, trailByte, leadByte}
 
 -- six bits are put under a value that has room for them
 pub or-group : (v y : ℕ) → v < 2 ^ 26 → y < 64 → bitOr (v * 2 ^ 6 % 2 ^ 32) y ≡ v * 64 + y
@@ -62,7 +62,7 @@ count-most c = count-case UpToThree c (λ h. omega arith) (λ h. omega arith) (�
 
 -- what stands above the groups does not reach into the lead byte's mark
 abbrev pub LeadOk : ℕ → ℕ → Type 0
-LeadOk c k = (k ≤ 3) × (bitOr (markOf k) (c / 2 ^ (6 * k)) ≡ leadByte c k) × (leadByte c k < 256)
+LeadOk c k = (k ≤ 3) × (bitOr (leadMark k) (c / 2 ^ (6 * k)) ≡ leadByte c k) × (leadByte c k < 256)
 
 pub lead-ok : {c k : ℕ} → k ≡ trailCount c → c < 0x110000 → LeadOk c k
 lead-ok {c} e l =

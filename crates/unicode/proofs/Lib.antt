@@ -6,3 +6,5 @@ pub mod RoundTrip
 pub mod MoreInput
 pub mod WellFormed
 pub mod Vectors
+pub mod Words
+pub mod FourBytes

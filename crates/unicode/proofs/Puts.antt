@@ -45,55 +45,67 @@ length-encodeOf c = ap suc (length-trails c (trailCount c)) ∙ sym (add-one (tr
 pub length-encode : (c : ℕ) → (1 ≤ length (encodeOf c)) × (length (encodeOf c) ≤ 4)
 length-encode c = omega (arith, length-encodeOf c, count-most c)
 
+-- the answer and the list, by what the tests said
+module _ (encode : ℕ → List ℕ) (c : ℕ) (out : List ℕ) (at : ℕ) where
+  pub encode-refused : isScalar c ≡ false → (NotScalar ≡ encodeAnswer encode c out at) × (out ≡ encodeInto encode c out at)
+  unfolding encodeAnswer encodeInto
+  encode-refused h = (rw h, rw h)
+
+  module _ (n : ℕ) (yes : isScalar c ≡ true) (e : length (encode c) ≡ n) where
+    pub encode-full : length out < at + n → (NoRoom ≡ encodeAnswer encode c out at) × (out ≡ encodeInto encode c out at)
+    unfolding encodeAnswer encodeInto
+    encode-full h =
+        let t = lt-leb (at + length (encode c)) (length out) (omega arith) in
+        (simp (yes, t), simp (yes, t))
+
+    pub encode-done : at + n ≤ length out → (Bytes n ≡ encodeAnswer encode c out at) × (sets out at (encode c) ≡ encodeInto encode c out at)
+    unfolding encodeAnswer encodeInto
+    encode-done h =
+        let t = le-leb (at + length (encode c)) (length out) (omega arith) in
+        (simp (yes, t) (ap Bytes (sym e)), sets-eq (encode c) out at (omega arith) ∙ simp (yes, t))
+
 -- the answer and the list where the lead byte and k trail bytes are stored
 abbrev pub PutAt : ℕ → List ℕ → ℕ → ℕ → Type 0
-PutAt c out at k = (Bytes (k + 1) ≡ encodeAnswer c out at) × (sets out at (leadByte c k ∷ trailBytes c k) ≡ encodeInto c out at)
-
--- the answer and the list, by what the tests said
-pub encode-refused : (c : ℕ) (out : List ℕ) (at : ℕ) → isScalar c ≡ false → (NotScalar ≡ encodeAnswer c out at) × (out ≡ encodeInto c out at)
-unfolding encodeAnswer encodeInto
-encode-refused c out at h = (rw h, rw h)
+PutAt c out at k = (Bytes (k + 1) ≡ encodeAnswer encodeOf c out at) × (sets out at (leadByte c k ∷ trailBytes c k) ≡ encodeInto encodeOf c out at)
 
 module _ (c : ℕ) (out : List ℕ) (at trails : ℕ) (yes : isScalar c ≡ true) (e : trails ≡ trailCount c) where
-  pub encode-full : length out < at + (trails + 1) → (NoRoom ≡ encodeAnswer c out at) × (out ≡ encodeInto c out at)
-  unfolding encodeAnswer encodeInto
-  encode-full h =
-      let n = length-encodeOf c in
-      let t = lt-leb (at + length (encodeOf c)) (length out) (omega arith) in
-      (simp (yes, t), simp (yes, t))
+  long : length (encodeOf c) ≡ trails + 1
+  long = omega (arith, length-encodeOf c)
 
-  pub encode-done : at + (trails + 1) ≤ length out → PutAt c out at trails
-  unfolding encodeOf encodeAnswer encodeInto
-  encode-done h =
-      let n = length-encodeOf c in
-      let t = le-leb (at + length (encodeOf c)) (length out) (omega arith) in
-      (simp (yes, t) (ap Bytes (omega arith)), rw e (sets-eq (encodeOf c) out at (omega arith) ∙ simp (yes, t)))
+  pub utf8-full : length out < at + (trails + 1) → (NoRoom ≡ encodeAnswer encodeOf c out at) × (out ≡ encodeInto encodeOf c out at)
+  utf8-full = encode-full encodeOf c out at (trails + 1) yes long
+
+  pub utf8-done : at + (trails + 1) ≤ length out → PutAt c out at trails
+  unfolding encodeOf
+  utf8-done h =
+      let d = encode-done encodeOf c out at (trails + 1) yes long h in
+      (d .0, rw e (d .1))
 
 -- what each answer tells a caller
-pub record PutDone (c : ℕ) (old : List ℕ) (at m : ℕ) : Type 0 where
+pub record PutDone (encode : ℕ → List ℕ) (c : ℕ) (old : List ℕ) (at m : ℕ) : Type 0 where
   pub scalar : Scalar c
-  pub within : at + length (encodeOf c) ≤ length old
-  pub count : m ≡ length (encodeOf c)
-  pub bytes : encodeInto c old at ≡ placed old at (encodeOf c)
+  pub within : at + length (encode c) ≤ length old
+  pub count : m ≡ length (encode c)
+  pub bytes : encodeInto encode c old at ≡ placed old at (encode c)
 
-pub record PutFull (c : ℕ) (old : List ℕ) (at : ℕ) : Type 0 where
+pub record PutFull (encode : ℕ → List ℕ) (c : ℕ) (old : List ℕ) (at : ℕ) : Type 0 where
   pub scalar : Scalar c
-  pub beyond : length old < at + length (encodeOf c)
-  pub kept : encodeInto c old at ≡ old
+  pub beyond : length old < at + length (encode c)
+  pub kept : encodeInto encode c old at ≡ old
 
-pub record PutRefused (c : ℕ) (old : List ℕ) (at : ℕ) : Type 0 where
+pub record PutRefused (encode : ℕ → List ℕ) (c : ℕ) (old : List ℕ) (at : ℕ) : Type 0 where
   pub other : Scalar c → ⊥
-  pub kept : encodeInto c old at ≡ old
+  pub kept : encodeInto encode c old at ≡ old
 
 -- the answer and the list by the two tests
-module _ (c : ℕ) (old : List ℕ) (at : ℕ) where
+module _ (encode : ℕ → List ℕ) (c : ℕ) (old : List ℕ) (at : ℕ) where
   abbrev AnswerBy : Bool → Bool → Put
-  AnswerBy s t = pick s (pick t (Bytes (length (encodeOf c))) NoRoom) NotScalar
+  AnswerBy s t = pick s (pick t (Bytes (length (encode c))) NoRoom) NotScalar
 
   abbrev IntoBy : Bool → Bool → List ℕ
-  IntoBy s t = pick s (pick t (placed old at (encodeOf c)) old) old
+  IntoBy s t = pick s (pick t (placed old at (encode c)) old) old
 
-  done-by : (m : ℕ) (s t : Bool) → Bytes m ≡ AnswerBy s t → (s ≡ true) × (t ≡ true) × (m ≡ length (encodeOf c)) × (IntoBy s t ≡ placed old at (encodeOf c))
+  done-by : (m : ℕ) (s t : Bool) → Bytes m ≡ AnswerBy s t → (s ≡ true) × (t ≡ true) × (m ≡ length (encode c)) × (IntoBy s t ≡ placed old at (encode c))
   done-by m true true e = (refl, refl, cc, refl)
   done-by m true false e = let z : _≡_ {A = ℕ} 0 1 = cc in absurd (omega arith)
   done-by m false t e = let z : _≡_ {A = ℕ} 0 1 = cc in absurd (omega arith)
@@ -108,20 +120,20 @@ module _ (c : ℕ) (old : List ℕ) (at : ℕ) where
   refused-by true false e = let z : _≡_ {A = ℕ} 0 1 = cc in absurd (omega arith)
   refused-by false t e = (refl, refl)
 
-  pub put-done : (m : ℕ) → Bytes m ≡ encodeAnswer c old at → PutDone c old at m
+  pub put-done : (m : ℕ) → Bytes m ≡ encodeAnswer encode c old at → PutDone encode c old at m
   unfolding encodeAnswer encodeInto
   put-done m e =
-      let r = done-by m (isScalar c) (fits old at (encodeOf c)) e in
+      let r = done-by m (isScalar c) (fits old at (encode c)) e in
       record { scalar = isScalar⇒Scalar c (r .0); within = leb-true _ _ (r .1); count = r .2; bytes = r .3 }
 
-  pub put-full : NoRoom ≡ encodeAnswer c old at → PutFull c old at
+  pub put-full : NoRoom ≡ encodeAnswer encode c old at → PutFull encode c old at
   unfolding encodeAnswer encodeInto
   put-full e =
-      let r = full-by (isScalar c) (fits old at (encodeOf c)) e in
+      let r = full-by (isScalar c) (fits old at (encode c)) e in
       record { scalar = isScalar⇒Scalar c (r .0); beyond = leb-false _ _ (r .1); kept = r .2 }
 
-  pub put-refused : NotScalar ≡ encodeAnswer c old at → PutRefused c old at
+  pub put-refused : NotScalar ≡ encodeAnswer encode c old at → PutRefused encode c old at
   unfolding encodeAnswer encodeInto
   put-refused e =
-      let r = refused-by (isScalar c) (fits old at (encodeOf c)) e in
+      let r = refused-by (isScalar c) (fits old at (encode c)) e in
       record { other = λ s. clash (Scalar⇒isScalar c s) (r .0); kept = r .1 }

@@ -14,7 +14,7 @@ use Rattle.lists.specs.Between.{between}
 use Rattle.lists.proofs.Laws.{clash, and-yes, and-left, and-right}
 use Rattle.lists.proofs.Cases.{pick-case, pick-yes}
 use Rattle.lists.proofs.Between.{between-yes⁺, between-yes⁻}
-use Rattle.unicode.specs.Utf8.{markOf, leadOf, trailsOf, afterLead, decodeOne}
+use Rattle.unicode.specs.Utf8.{leadMark, leadOf, trailsOf, afterLead, decodeOne}
 use Rattle.unicode.specs.WellFormed.{Range, from, rows, matches, anyRow, wellFormed, valueFrom, sequenceValue, StartsWith, Begins}
 use Rattle.unicode.specs.declared.utf8.Lead.{Lead}
 use Rattle.unicode.specs.declared.utf8.Lead.the-variants.{Of, Illegal}
@@ -60,7 +60,7 @@ match-reads (suc k) lo hi v n (x ∷ s) t e =
     ∙ ap (Scalar (valueFrom (v * 64 + x % 64) s)) (omega arith)
 
 -- a row whose lead bytes say what its other places are
-row-reads : (a z k lo hi : ℕ) (s t : List ℕ) → ((b : ℕ) → (a ≤ b) × (b ≤ z) → leadOf b ≡ Of k lo hi (b - markOf k))
+row-reads : (a z k lo hi : ℕ) (s t : List ℕ) → ((b : ℕ) → (a ≤ b) × (b ≤ z) → leadOf b ≡ Of k lo hi (b - leadMark k))
     → matches (from a z ∷ ranges k lo hi) s ≡ true → decodeOne (s ++ t) ≡ Scalar (sequenceValue s) (length s)
 unfolding decodeOne sequenceValue
 row-reads a z k lo hi [] t f e = absurd (clash e refl)
@@ -69,9 +69,9 @@ row-reads a z k lo hi (b ∷ s) t f e =
     let w = between-yes⁻ a z b (and-left (between a z b) _ e) in
     let n = match-length k lo hi s m in
     ap (λ (l : Lead). afterLead l (s ++ t)) (f b w)
-    ∙ match-reads k lo hi (b - markOf k) 1 s t m
-    ∙ ap (λ (j : ℕ). Scalar (valueFrom (b - markOf j) s) (1 + j)) (sym n)
-    ∙ ap (Scalar (valueFrom (b - markOf (length s)) s)) (omega arith)
+    ∙ match-reads k lo hi (b - leadMark k) 1 s t m
+    ∙ ap (λ (j : ℕ). Scalar (valueFrom (b - leadMark j) s) (1 + j)) (sym n)
+    ∙ ap (Scalar (valueFrom (b - leadMark (length s)) s)) (omega arith)
 
 -- a well-formed sequence decodes to its value, whatever bytes stand behind it
 pub well-formed-decodes : (s t : List ℕ) → wellFormed s ≡ true → decodeOne (s ++ t) ≡ Scalar (sequenceValue s) (length s)
@@ -128,16 +128,16 @@ reads-match (suc k) lo hi v n (x ∷ s) c m e =
     e
 
 reads-row : (a z k lo hi b : ℕ) (t : List ℕ) (c n : ℕ) → In (from a z ∷ ranges k lo hi) rows → (a ≤ b) × (b ≤ z)
-    → afterLead (Of k lo hi (b - markOf k)) t ≡ Scalar c n → StartsWith (b ∷ t) c n
+    → afterLead (Of k lo hi (b - leadMark k)) t ≡ Scalar c n → StartsWith (b ∷ t) c n
 unfolding wellFormed sequenceValue
 reads-row a z k lo hi b t c n i h e =
-    let r = reads-match k lo hi (b - markOf k) 1 t c n e in
+    let r = reads-match k lo hi (b - leadMark k) 1 t c n e in
     let m : n ≡ suc k = omega arith in
     let l : length (take k t) ≡ k = length-take-le k t (r .within) in
     record {
       within = omega arith;
       formed = rw m (any-in (from a z ∷ ranges k lo hi) rows (b ∷ take k t) i (and-yes (between a z b) _ (between-yes⁺ a z b (h .0) (h .1)) (r .match)));
-      value = rw m (ap (λ (j : ℕ). valueFrom (b - markOf j) (take k t)) l ∙ r .value);
+      value = rw m (ap (λ (j : ℕ). valueFrom (b - leadMark j) (take k t)) l ∙ r .value);
     }
 
 decodes-starts : (s : List ℕ) (c n : ℕ) → decodeOne s ≡ Scalar c n → StartsWith s c n

@@ -37,23 +37,23 @@ unfoldable pub isScalar : ℕ → Bool
 isScalar c = ltb c 0xd800 or (if ltb c 0xe000 then false else ltb c 0x110000)
 
 -- what marks a lead byte before k trail bytes
-abbrev pub markOf : ℕ → ℕ
-markOf zero = 0
-markOf (suc zero) = 0xc0
-markOf (suc (suc zero)) = 0xe0
-markOf (suc (suc (suc k))) = 0xf0
+abbrev pub leadMark : ℕ → ℕ
+leadMark zero = 0
+leadMark (suc zero) = 0xc0
+leadMark (suc (suc zero)) = 0xe0
+leadMark (suc (suc (suc k))) = 0xf0
 
 -- what a lead byte says: how many trail bytes follow, the bounds of the first of them, the lead's own bits
 abbrev pub leadOf : ℕ → Lead
 leadOf b =
-    if ltb b 0x80 then lead.Of 0 0x80 0xbf (b - markOf 0) else
+    if ltb b 0x80 then lead.Of 0 0x80 0xbf (b - leadMark 0) else
     if ltb b 0xc2 then lead.Illegal else
-    if ltb b 0xe0 then lead.Of 1 0x80 0xbf (b - markOf 1) else
+    if ltb b 0xe0 then lead.Of 1 0x80 0xbf (b - leadMark 1) else
     if ltb b 0xf0
-    then lead.Of 2 (if eqb b 0xe0 then 0xa0 else 0x80) (if eqb b 0xed then 0x9f else 0xbf) (b - markOf 2)
+    then lead.Of 2 (if eqb b 0xe0 then 0xa0 else 0x80) (if eqb b 0xed then 0x9f else 0xbf) (b - leadMark 2)
     else
     if ltb b 0xf5
-    then lead.Of 3 (if eqb b 0xf0 then 0x90 else 0x80) (if eqb b 0xf4 then 0x8f else 0xbf) (b - markOf 3)
+    then lead.Of 3 (if eqb b 0xf0 then 0x90 else 0x80) (if eqb b 0xf4 then 0x8f else 0xbf) (b - leadMark 3)
     else lead.Illegal
 
 -- k trail bytes, the first of them from lo to hi, after n bytes that gave v
@@ -84,7 +84,7 @@ trailByte c k = 0x80 + c / 2 ^ (6 * k) % 64
 
 -- all that stands above the k lowest groups of six, as a lead byte
 abbrev pub leadByte : ℕ → ℕ → ℕ
-leadByte c k = markOf k + c / 2 ^ (6 * k)
+leadByte c k = leadMark k + c / 2 ^ (6 * k)
 
 -- the k lowest groups as trail bytes, the highest first
 abbrev pub trailBytes : ℕ → ℕ → List ℕ
@@ -95,13 +95,14 @@ trailBytes c (suc k) = trailByte c k ∷ trailBytes c k
 unfoldable pub encodeOf : ℕ → List ℕ
 encodeOf c = leadByte c (trailCount c) ∷ trailBytes c (trailCount c)
 
--- the answer of encoding c into old from at on (a conversion gives Full the number 50)
-unfoldable pub encodeAnswer : ℕ → List ℕ → ℕ → Put
-encodeAnswer c old at =
-    if isScalar c then (if fits old at (encodeOf c) then put.Bytes (length (encodeOf c)) else put.NoRoom) else
+-- the answer of encoding c into old from `at` on, whatever a code point's bytes are (`encode`); a conversion gives
+-- NoRoom the number 50
+unfoldable pub encodeAnswer : (ℕ → List ℕ) → ℕ → List ℕ → ℕ → Put
+encodeAnswer encode c old at =
+    if isScalar c then (if fits old at (encode c) then put.Bytes (length (encode c)) else put.NoRoom) else
     put.NotScalar
 
--- old after encoding c into it from at on
-unfoldable pub encodeInto : ℕ → List ℕ → ℕ → List ℕ
-encodeInto c old at =
-    if isScalar c then (if fits old at (encodeOf c) then placed old at (encodeOf c) else old) else old
+-- old after encoding c into it from `at` on
+unfoldable pub encodeInto : (ℕ → List ℕ) → ℕ → List ℕ → ℕ → List ℕ
+encodeInto encode c old at =
+    if isScalar c then (if fits old at (encode c) then placed old at (encode c) else old) else old

@@ -7,7 +7,7 @@ use mathlib.Core.Bool.{Bool, true, false}
 use lib.ListN.{length, take}
 use Rattle.lists.specs.Pick.{_and_, _or_}
 use Rattle.lists.specs.Between.{between}
-use Rattle.unicode.specs.Utf8.{markOf}
+use Rattle.unicode.specs.Utf8.{leadMark}
 
 -- the bytes that may stand at one place
 pub data Range : Type 0 where
@@ -59,7 +59,7 @@ valueFrom v (x ∷ s) = valueFrom (v * 64 + x % 64) s
 -- the value of a sequence: the lead byte without its mark, then six bits of each trail byte
 unfoldable pub sequenceValue : List ℕ → ℕ
 sequenceValue [] = 0
-sequenceValue (b ∷ s) = valueFrom (b - markOf (length s)) s
+sequenceValue (b ∷ s) = valueFrom (b - leadMark (length s)) s
 
 -- the first n bytes of s are one whole well-formed sequence, and c is its value
 pub record StartsWith (s : List ℕ) (c n : ℕ) : Type 0 where

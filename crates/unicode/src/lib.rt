@@ -1,2 +1,4 @@
-// One scalar value and its bytes in a Unicode encoding form.
+// One scalar value and its bytes in a Unicode encoding scheme.
+pub mod scheme;
+pub mod utf32;
 pub mod utf8;

@@ -2,8 +2,8 @@
 ghost use mathlib.Core.Path.{_≡_};
 ghost use Prim.Native.Nat.{ℕ, suc, _+_, _*_, _%_, _^_, _≤_, _<_};
 ghost use lib.ListN.{drop};
-ghost use Rattle.unicode.specs.Utf8.{isScalar, stopNumber, markOf, leadOf, trailsOf, decodeOne, trailCount};
-ghost use Rattle.unicode.specs.Utf8.{trailByte, leadByte, encodeAnswer, encodeInto};
+ghost use Rattle.unicode.specs.Utf8.{isScalar, stopNumber, leadMark, leadOf, trailsOf, decodeOne, trailCount};
+ghost use Rattle.unicode.specs.Utf8.{trailByte, leadByte, encodeOf, encodeAnswer, encodeInto};
 ghost use Rattle.unicode.specs.declared.utf8.Lead.the-variants.{Of};
 ghost use Rattle.unicode.specs.declared.utf8.Sequence.the-variants.{Scalar};
 
@@ -11,7 +11,8 @@ ghost use Rattle.unicode.specs.declared.utf8.Sequence.the-variants.{Scal
 pub enum Stop {
     // 51: the input ends inside the sequence. Put the next bytes after it and call again; at the input's end, give up.
     CutShort,
-    // 52: the sequence is illegal. Its length goes up to and including the byte that made it so: skip that many bytes.
+    // 52: the sequence is illegal. Its length goes up to and including the byte that made it so, in UTF-32 over all
+    // four bytes: skip that many bytes.
     Illegal(usize),
     // 53, from a conversion only: the table has no mapping for it. Substitute, or skip the sequence.
     Unassigned,
@@ -210,7 +211,7 @@ fn trail_count(c: u32) -> usize
 // The mark of a lead byte before `k` trail bytes.
 fn mark(k: usize) -> u32
     requires { ⌜ k ≤ 3 ⌝ }
-    ensures { λ r. ⌜ r ≡ markOf k ⌝ }
+    ensures { λ r. ⌜ r ≡ leadMark k ⌝ }
 {
     match k {
         0 => 0,
@@ -238,8 +239,8 @@ fn trail_byte(c: u32, k: usize) -> u8
 
 // Writes a scalar value's bytes into `out` from `at` on if they fit; otherwise `out` stays as it was.
 pub fn encode(c: u32, out: &mut [u8], at: usize) -> Put
-    ensures { λ r. ⌜ (r ≡ encodeAnswer c (now (out .entry)) at)
-        × (now (out .exit) ≡ encodeInto c (now (out .entry)) at) ⌝ }
+    ensures { λ r. ⌜ (r ≡ encodeAnswer encodeOf c (now (out .entry)) at)
+        × (now (out .exit) ≡ encodeInto encodeOf c (now (out .entry)) at) ⌝ }
 {
     if !is_scalar(c) {
         return Put::NotScalar;

@@ -5,29 +5,30 @@ use mathlib.Core.List.{List}
 use native.Mathlib.Omega.{arith}
 use borrow.Author.Tests.{not-true, not-false}
 use lib.ListN.{length, drop}
+use Rattle.unicode.specs.Scheme.{sideOf}
 use Rattle.table.specs.Codes.{unpacked}
 use Rattle.table.specs.Slices.{slices}
 use Rattle.table.specs.Memory.{tableIn}
 use Rattle.table.proofs.Packing.{length-unpacked}
 use Rattle.convert.specs.Run.{SequenceStep}
-use Rattle.convert.specs.Step.{utf8, fromStep}
+use Rattle.convert.specs.Step.{fromStep}
 use Rattle.convert.specs.declared.Sent.{Sent}
 use Rattle.convert.specs.declared.Sent.the-variants as sent
 use Rattle.convert.proofs.CodeBytes.{was-full, was-put}
 use Rattle.convert.proofs.Runs.{Going, run-start, run-turn, ends-all, ends-stop, ends-full}
 use Rattle.lists.proofs.Parts.{take-drop-all}
-use Rattle.convert.proofs.Steps.{utf8-lawful, from-sound}
+use Rattle.convert.proofs.Steps.{lawful, from-sound}
 use borrow.Author.Needs.{needs}
 use Rattle.convert.proofs.from_run.Statement.{statement}
 use Rattle.convert.proofs.from_run.Tie as tie
 use Rattle.convert.specs.loops.Inner.{Sound, sentOf}
 
 abbrev Inv-loop : tie.InvT-loop
-Inv-loop rec states codes infos order hints input out₀ settings at₀ w₀ out at w =
-    Going (fromStep utf8 (tableIn rec (slices states codes infos order)) settings) 0 input out₀ out 0 at w
+Inv-loop rec states codes infos order hints input out₀ settings scheme at₀ w₀ out at w =
+    Going (fromStep (sideOf scheme) (tableIn rec (slices states codes infos order)) settings) 0 input out₀ out 0 at w
 
 abbrev μ-loop : tie.MeasureT-loop
-μ-loop rec states codes infos order hints input out₀ settings at₀ w₀ out at w = length input - at
+μ-loop rec states codes infos order hints input out₀ settings scheme at₀ w₀ out at w = length input - at
 
 abbrev entry : tie.After-slice-known Inv-loop μ-loop → tie.Start Inv-loop μ-loop
 entry c = c .before .before .before .before .before .before .before
@@ -43,7 +44,7 @@ after-sent2-2 c = c .before .before .before .before .before .before .before
 
 -- the step and the rest of the input at a turn
 abbrev stepAt : tie.After-from-step Inv-loop μ-loop → SequenceStep
-stepAt d = let a = entry-2 d .args in fromStep utf8 (tableIn (a .rec) (slices (a .states .now) (a .codes .now) (a .infos .now) (a .order .now))) (a .settings)
+stepAt d = let a = entry-2 d .args in fromStep (sideOf (a .scheme)) (tableIn (a .rec) (slices (a .states .now) (a .codes .now) (a .infos .now) (a .order .now))) (a .settings)
 
 abbrev restAt : tie.After-from-step Inv-loop μ-loop → List ℕ
 restAt d = drop (d .before .before .before .loop .at) (entry-2 d .args .input .now)
@@ -51,7 +52,7 @@ restAt d = drop (d .before .before .before .loop .at) (entry-2 d .args .input .n
 soundAt : (d : tie.After-from-step Inv-loop μ-loop) → Sound (stepAt d)
 soundAt d =
     let a = entry-2 d .args in
-    from-sound utf8 utf8-lawful
+    from-sound (sideOf (a .scheme)) (lawful (a .scheme))
     (tableIn (a .rec) (slices (a .states .now) (a .codes .now) (a .infos .now) (a .order .now))) (a .settings)
 
 -- what the rest gives
@@ -81,7 +82,7 @@ nextAt c =
 loop-holds : tie.Need-loop-holds Inv-loop μ-loop
 loop-holds c =
     let a = entry c .args in
-    run-start (fromStep utf8 (tableIn (a .rec)
+    run-start (fromStep (sideOf (a .scheme)) (tableIn (a .rec)
     (slices (a .states .now) (a .codes .now) (a .infos .now) (a .order .now))) (a .settings)) 0 (a .input .now)
     (a .out .now)
 

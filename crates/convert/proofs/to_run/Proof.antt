@@ -6,7 +6,8 @@ use native.Mathlib.Omega.{arith}
 use lib.ListN.{length, drop}
 use Rattle.lists.specs.Order.{All}
 use Rattle.lists.proofs.AllPlaces.{All-getD⁺}
-use Rattle.unicode.specs.Utf8.{Scalar, encodeOf}
+use Rattle.unicode.specs.Utf8.{Scalar}
+use Rattle.unicode.specs.Scheme.{Side, sideOf}
 use Rattle.unicode.specs.declared.utf8.Sequence.{Sequence}
 use Rattle.unicode.specs.declared.utf8.Sequence.the-variants as sequence
 use Rattle.unicode.proofs.Puts.{put-done, put-full, put-refused}
@@ -16,7 +17,7 @@ use Rattle.table.specs.Slices.{slices}
 use Rattle.table.specs.Memory.{tableIn}
 use Rattle.table.proofs.ValidLaws.{valid-table}
 use Rattle.convert.specs.Run.{SequenceStep}
-use Rattle.convert.specs.Step.{utf8, toSequence, encoded, toStep}
+use Rattle.convert.specs.Step.{toSequence, encoded, toStep}
 use Rattle.convert.proofs.Runs.{Going, run-start, run-turn, ends-all, ends-stop, ends-full}
 use Rattle.lists.proofs.Parts.{take-drop-all}
 use Rattle.convert.proofs.Steps.{to-sound, to-scalar, to-gives}
@@ -25,11 +26,11 @@ use Rattle.convert.proofs.to_run.Statement.{statement}
 use Rattle.convert.proofs.to_run.Tie as tie
 
 abbrev Inv-loop : tie.InvT-loop
-Inv-loop rec states codes infos order hints input out₀ settings at₀ w₀ out at w =
-    Going (toStep utf8 (tableIn rec (slices states codes infos order)) settings) 0 input out₀ out 0 at w
+Inv-loop rec states codes infos order hints input out₀ settings scheme at₀ w₀ out at w =
+    Going (toStep (sideOf scheme) (tableIn rec (slices states codes infos order)) settings) 0 input out₀ out 0 at w
 
 abbrev μ-loop : tie.MeasureT-loop
-μ-loop rec states codes infos order hints input out₀ settings at₀ w₀ out at w = length input - at
+μ-loop rec states codes infos order hints input out₀ settings scheme at₀ w₀ out at w = length input - at
 
 abbrev entry : tie.After-slice-known Inv-loop μ-loop → tie.Start Inv-loop μ-loop
 entry c = c .before .before .before .before .before .before .before
@@ -53,8 +54,11 @@ after-encode c = c .before .before .before .before .before
 abbrev tableAt : tie.After-to-step Inv-loop μ-loop → Table
 tableAt d = let a = entry-2 d .args in tableIn (a .rec) (slices (a .states .now) (a .codes .now) (a .infos .now) (a .order .now))
 
+abbrev sideAt : tie.After-to-step Inv-loop μ-loop → Side
+sideAt d = sideOf (entry-2 d .args .scheme)
+
 abbrev stepAt : tie.After-to-step Inv-loop μ-loop → SequenceStep
-stepAt d = toStep utf8 (tableAt d) (entry-2 d .args .settings)
+stepAt d = toStep (sideAt d) (tableAt d) (entry-2 d .args .settings)
 
 abbrev restAt : tie.After-to-step Inv-loop μ-loop → List ℕ
 restAt d = drop (d .before .before .before .loop .at) (entry-2 d .args .input .now)
@@ -67,8 +71,8 @@ sequenceAt d =
     d .to-step .ensures (a .order .now) (entry-2 d .pre)
     ∙ ap (toSequence (tableAt d) (a .settings) 0) (take-drop-all (a .input .now) (d .before .before .before .loop .at))
 
-gaveAt : (d : tie.After-to-step Inv-loop μ-loop) (x : Sequence) → d .to-step .result ≡ x → stepAt d 0 (restAt d) ≡ encoded utf8 0 x
-gaveAt d x e = to-gives (tableAt d) (entry-2 d .args .settings) 0 utf8 (restAt d) x (sym (sequenceAt d) ∙ e)
+gaveAt : (d : tie.After-to-step Inv-loop μ-loop) (x : Sequence) → d .to-step .result ≡ x → stepAt d 0 (restAt d) ≡ encoded (sideAt d) 0 x
+gaveAt d x e = to-gives (tableAt d) (entry-2 d .args .settings) 0 (sideAt d) (restAt d) x (sym (sequenceAt d) ∙ e)
 
 -- T6: a scalar value
 scalarAt : (d : tie.After-to-step Inv-loop μ-loop) (x n : ℕ) → d .to-step .result ≡ sequence.Scalar x n → Scalar x
@@ -83,7 +87,7 @@ scalarAt d x n e =
 -- the turn is over
 nextAt : (c : tie.After-known-told3 Inv-loop μ-loop) → let d = after-sequence2-2 c .before .before in
     Going (stepAt d) 0 (entry-2 d .args .input .now) (entry-2 d .args .out .now)
-    (after-encode c .encode .last .1 .0) 0
+    (after-encode c .encode .last .1 .1 .0) 0
     (d .before .before .before .loop .at + after-sequence2-2 c .sequence2 .given .0 .1 .0)
     (d .before .before .before .loop .w + c .before .put .given .0 .0)
 nextAt c =
@@ -91,14 +95,14 @@ nextAt c =
     let q = d .before .before .before .loop in
     let k = after-sequence2-2 c .sequence2 .given in
     let x = after-encode c .encode in
-    let p = put-done (k .0 .0) (q .out) (q .w) (c .before .put .given .0 .0) (sym (c .before .put .given .1) ∙ x .ensures .0) in
-    run-turn (q .inv) (d .before .before .loop-test .taken) (encodeOf (k .0 .0)) (k .0 .1 .0) 0 (gaveAt d (sequence.Scalar (k .0 .0) (k .0 .1 .0)) (k .1))
-    (to-sound utf8 (tableAt d) (entry-2 d .args .settings)) (c .before .put .given .0 .0) (x .last .1 .0) (p .count) (p .within) (x .ensures .1 ∙ p .bytes)
+    let p = put-done (sideAt d .encode) (k .0 .0) (q .out) (q .w) (c .before .put .given .0 .0) (sym (c .before .put .given .1) ∙ x .ensures .0) in
+    run-turn (q .inv) (d .before .before .loop-test .taken) (sideAt d .encode (k .0 .0)) (k .0 .1 .0) 0 (gaveAt d (sequence.Scalar (k .0 .0) (k .0 .1 .0)) (k .1))
+    (to-sound (sideAt d) (tableAt d) (entry-2 d .args .settings)) (c .before .put .given .0 .0) (x .last .1 .1 .0) (p .count) (p .within) (x .ensures .1 ∙ p .bytes)
 
 loop-holds : tie.Need-loop-holds Inv-loop μ-loop
 loop-holds c =
     let a = entry c .args in
-    run-start (toStep utf8 (tableIn (a .rec)
+    run-start (toStep (sideOf (a .scheme)) (tableIn (a .rec)
     (slices (a .states .now) (a .codes .now) (a .infos .now) (a .order .now))) (a .settings)) 0 (a .input .now)
     (a .out .now)
 
@@ -135,8 +139,8 @@ loop-less c =
     let d = after-sequence2-2 c .before .before in
     let k = after-sequence2-2 c .sequence2 .given in
     let g = nextAt c in
-    let p = to-sound utf8 (tableAt d) (entry-2 (after-sequence2-2 c .before .before) .args .settings) .some 0
-    (restAt d) (encodeOf (k .0 .0)) (k .0 .1 .0) 0 (gaveAt d (sequence.Scalar (k .0 .0) (k .0 .1 .0)) (k .1)) in
+    let p = to-sound (sideAt d) (tableAt d) (entry-2 (after-sequence2-2 c .before .before) .args .settings) .some 0
+    (restAt d) (sideAt d .encode (k .0 .0)) (k .0 .1 .0) 0 (gaveAt d (sequence.Scalar (k .0 .0) (k .0 .1 .0)) (k .1)) in
     omega arith
 
 loop-again : tie.Need-loop-again Inv-loop μ-loop
@@ -148,8 +152,8 @@ returns-2 c =
     let q = d .before .before .before .loop in
     let k = after-sequence2 (c .before .before .before) .sequence2 .given in
     let x = c .before .before .before .before .before .encode in
-    let f = put-full (k .0 .0) (q .out) (q .w) (sym (c .before .enum-told .given .1) ∙ x .ensures .0) in
-    let r = ends-full (q .inv) (d .before .before .loop-test .taken) (encodeOf (k .0 .0)) (k .0 .1 .0) 0
+    let f = put-full (sideAt d .encode) (k .0 .0) (q .out) (q .w) (sym (c .before .enum-told .given .1) ∙ x .ensures .0) in
+    let r = ends-full (q .inv) (d .before .before .loop-test .taken) (sideAt d .encode (k .0 .0)) (k .0 .1 .0) 0
     (gaveAt d (sequence.Scalar (k .0 .0) (k .0 .1 .0)) (k .1)) (f .beyond) in
     (c .ended2 .ensures ∙ r .0, x .ensures .1 ∙ f .kept ∙ r .1)
 
@@ -158,7 +162,7 @@ returns-3 c =
     let d = after-sequence2 (c .before .before .before) .before .before in
     let q = d .before .before .before .loop in
     let k = after-sequence2 (c .before .before .before) .sequence2 .given in
-    absurd (put-refused (k .0 .0) (q .out) (q .w)
+    absurd (put-refused (sideAt d .encode) (k .0 .0) (q .out) (q .w)
     (sym (c .before .enum-told2 .given .1) ∙ c .before .before .before .before .before .encode .ensures .0) .other
     (scalarAt d (k .0 .0) (k .0 .1 .0) (k .1)))
 

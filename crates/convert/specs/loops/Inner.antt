@@ -5,10 +5,10 @@ use mathlib.Core.Path.{_≡_}
 use mathlib.Core.List.{List, _++_}
 use lib.ListN.{length}
 use Rattle.unicode.specs.Utf8.{Scalar}
+use Rattle.unicode.specs.Scheme.{Side}
 use Rattle.unicode.specs.declared.utf8.Sequence.the-variants as sequence
 use Rattle.table.specs.Codes.{unpacked}
 use Rattle.convert.specs.Run.{Gives, give, stop, SequenceStep}
-use Rattle.convert.specs.Step.{Side}
 use Rattle.convert.specs.declared.Sent.{Sent}
 use Rattle.convert.specs.declared.Sent.the-variants as sent
 
@@ -22,6 +22,7 @@ pub record Sound (step : SequenceStep) : Type 0 where
 -- what the conversions need of a Unicode side
 pub record LawfulSide (u : Side) : Type 0 where
   pub some : (c : ℕ) → 0 < length (u .encode c)
+  pub few : (c : ℕ) → length (u .encode c) ≤ 4
   pub put-reads : (c : ℕ) (rest : List ℕ) → Scalar c
       → u .decode (u .encode c ++ rest) ≡ sequence.Scalar c (length (u .encode c))
   pub scalar : (s : List ℕ) (c n : ℕ) → u .decode s ≡ sequence.Scalar c n → Scalar c

@@ -8,8 +8,8 @@ use borrow.Author.Tests.{not-true, not-false}
 use borrow.Author.Needs.{needs}
 use denote.Ref.{now}
 use lib.ListN.{length-set}
-use Rattle.unicode.specs.Utf8.{isScalar}
-use Rattle.unicode.proofs.Puts.{isScalar⇒Scalar, encode-refused, encode-full, PutAt, encode-done}
+use Rattle.unicode.specs.Utf8.{isScalar, encodeOf}
+use Rattle.unicode.proofs.Puts.{isScalar⇒Scalar, encode-refused, PutAt, utf8-full, utf8-done}
 use Rattle.unicode.proofs.Groups.{count-most}
 use Rattle.unicode.proofs.utf8.encode.Statement.{statement}
 use Rattle.unicode.proofs.utf8.encode.Tie as tie
@@ -31,18 +31,18 @@ yes c = sym (c .before .is-scalar .ensures) ∙ not-false (c .before .is-scalar 
 stored : (c : tie.Else3) (k : ℕ) → c .before .before .trail-count .result ≡ k → let a = entry-2 c .args in PutAt (a .c) (now (a .out)) (a .at) k
 stored c k e =
     let a = entry-2 c .args in
-    encode-done (a .c) (now (a .out)) (a .at) k (yes (c .before .before .before)) (sym e ∙ c .before .before .trail-count .ensures) (omega arith)
+    utf8-done (a .c) (now (a .out)) (a .at) k (yes (c .before .before .before)) (sym e ∙ c .before .before .trail-count .ensures) (omega arith)
 
 returns : tie.Need-returns
 returns c =
     let a = c .before .before .before .args in
-    encode-refused (a .c) (now (a .out)) (a .at) (sym (c .before .is-scalar .ensures) ∙ not-true (c .before .is-scalar .result) (c .if1 .taken))
+    encode-refused encodeOf (a .c) (now (a .out)) (a .at) (sym (c .before .is-scalar .ensures) ∙ not-true (c .before .is-scalar .result) (c .if1 .taken))
 
 returns-2 : tie.Need-returns-2
 returns-2 c =
     let a = entry (c .before) .args in
     let t = c .before .trail-count in
-    encode-full (a .c) (now (a .out)) (a .at) (t .result) (yes (c .before .before)) (t .ensures) (omega arith)
+    utf8-full (a .c) (now (a .out)) (a .at) (t .result) (yes (c .before .before)) (t .ensures) (omega arith)
 
 sub-if3 : tie.Need-sub-if3
 sub-if3 c = omega arith
@@ -51,7 +51,7 @@ returns-3 : tie.Need-returns-3
 returns-3 c =
     let a = entry (c .before .before) .args in
     let t = c .before .before .trail-count in
-    encode-full (a .c) (now (a .out)) (a .at) (t .result) (yes (c .before .before .before)) (t .ensures) (omega arith)
+    utf8-full (a .c) (now (a .out)) (a .at) (t .result) (yes (c .before .before .before)) (t .ensures) (omega arith)
 
 lead-byte-requires : tie.Need-lead-byte-requires
 lead-byte-requires c κs =
