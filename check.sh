@@ -33,6 +33,7 @@ part() {
 part "layout of the sources" rt fmt --check
 part "proofs, must-fail edits, programs" rt ci
 part "static library" rt staticlib cabi
+part "static library of the look-ups alone" rt staticlib lookups
 part "C example" bash tests/c/run.sh
 part "tests from outside" cargo run --release --offline --quiet --manifest-path tests/Cargo.toml
 

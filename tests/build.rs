@@ -1,5 +1,6 @@
-//! Links the static library `cabi`, for the tests and for `bench/`. Its folder
-//! is taken from OBOEPOND_LIB, else it is ../target/staticlib beside the crate.
+//! Links the static library `cabi`, and `lookups` with the look-ups alone, for
+//! the tests and for `bench/`. Their folder is taken from OBOEPOND_LIB, else it
+//! is ../target/staticlib beside the crate.
 
 use std::path::PathBuf;
 
@@ -14,15 +15,17 @@ fn main() {
         Some(folder) => here.join(folder),
         None => here.join("../target/staticlib"),
     };
-    let library = folder.join("libcabi.a");
-    if !library.exists() {
-        panic!(
-            "no {}: set OBOEPOND_LIB to the folder of libcabi.a, \
-             or build the tests with --features oracle-only",
-            library.display()
-        );
+    for name in ["cabi", "lookups"] {
+        let library = folder.join(format!("lib{name}.a"));
+        if !library.exists() {
+            panic!(
+                "no {}: set OBOEPOND_LIB to the folder of libcabi.a and liblookups.a, \
+                 or build the tests with --features oracle-only",
+                library.display()
+            );
+        }
+        println!("cargo:rerun-if-changed={}", library.display());
+        println!("cargo:rustc-link-lib=static={name}");
     }
-    println!("cargo:rerun-if-changed={}", library.display());
     println!("cargo:rustc-link-search=native={}", folder.display());
-    println!("cargo:rustc-link-lib=static=cabi");
 }

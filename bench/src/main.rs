@@ -1,11 +1,12 @@
 //! Times the library beside a straightforward Rust converter over the same
 //! table in the same run, and beside ICU and iconv. Figures are ratios: time of
 //! the library divided by time of the other. The argument `look-ups` asks for the
-//! look-ups alone, `schemes` for UTF-32BE beside UTF-8 alone, `peers` for ICU and
-//! iconv alone, and `before FOLDER` for another build of the library.
+//! look-ups alone, `searches` for look-ups without any conversion, `schemes` for
+//! UTF-32BE beside UTF-8 alone, `peers` for ICU and iconv alone, and `before FOLDER`
+//! for another build of the library.
 //!
-//! Each figure is the median of several rounds; a second ratio is that of the
-//! least times, for a busy machine. The state of the buffers is printed with
+//! Each figure but those of `searches` is the median of several rounds; a second
+//! ratio is that of the least times, for a busy machine. The state of the buffers is printed with
 //! each figure: `cleared` means set to zero before each round, outside the time
 //! taken; `as left` means as the round before left them.
 
@@ -14,6 +15,8 @@ mod dynamic;
 mod iconv;
 mod icu;
 mod library;
+#[path = "../../tests/src/lookups.rs"]
+mod lookups;
 #[path = "../../tests/src/memory.rs"]
 mod memory;
 mod peers;
@@ -21,6 +24,7 @@ mod pipes;
 mod plain;
 #[path = "../../tests/src/raw.rs"]
 mod raw;
+mod searches;
 #[path = "../../tests/src/sys.rs"]
 mod sys;
 mod texts;
@@ -43,15 +47,17 @@ fn main() {
         [] => {
             own_figures();
             look_ups();
+            searches::run();
             peers::schemes();
             peers::run();
         }
         ["look-ups"] => look_ups(),
+        ["searches"] => searches::run(),
         ["schemes"] => peers::schemes(),
         ["peers"] => peers::run(),
         ["before", folder] => before::run(folder.as_ref()),
         _ => {
-            println!("arguments: none, `look-ups`, `schemes`, `peers` or `before FOLDER`");
+            println!("arguments: none, `look-ups`, `searches`, `schemes`, `peers` or `before FOLDER`");
             std::process::exit(2);
         }
     }

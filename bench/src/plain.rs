@@ -93,7 +93,7 @@ pub struct Plain {
     index: Index,
 }
 
-fn bits(code: &[u8]) -> u32 {
+pub fn bits(code: &[u8]) -> u32 {
     let mut four = [0; 4];
     four[..code.len()].copy_from_slice(code);
     u32::from_be_bytes(four)

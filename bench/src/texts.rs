@@ -101,10 +101,10 @@ pub fn mappings() -> Vec<Mapping> {
     out
 }
 
-fn shuffle(mappings: &mut [Mapping]) {
+pub fn shuffle<T>(what: &mut [T]) {
     let mut rng = Rng(3);
-    for i in (1..mappings.len()).rev() {
-        mappings.swap(i, rng.below(i + 1));
+    for i in (1..what.len()).rev() {
+        what.swap(i, rng.below(i + 1));
     }
 }
 

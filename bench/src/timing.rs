@@ -68,6 +68,17 @@ pub fn least(once: &mut dyn FnMut()) -> f64 {
     best
 }
 
+/// The least time of each way; short rounds, in which the ways take turns.
+fn least_of_each(ways: &mut [Way]) -> Vec<f64> {
+    let mut best = vec![f64::INFINITY; ways.len()];
+    for _ in 0..20 * ROUNDS {
+        for (best, way) in best.iter_mut().zip(&mut *ways) {
+            *best = best.min(round(1, &mut nothing, &mut way.once));
+        }
+    }
+    best
+}
+
 pub fn nothing() {}
 
 /// How much a way does in one go, and what a million of that in a second is
@@ -126,6 +137,20 @@ pub fn figure(name: &str, buffers: &str, amount: Option<Amount>, before: &mut dy
         match i {
             0 => println!("   least {:.1} us", least(t) * 1e6),
             _ => println!("   ratio {}, of least times {}", ratio(median(own), median(t)), ratio(least(own), least(t))),
+        }
+    }
+}
+
+/// Prints the least time of each way for one of so many look-ups: the library,
+/// which comes first, and each other way with its ratio.
+pub fn nanoseconds(name: &str, look_ups: usize, mut ways: Vec<Way>) {
+    let times = least_of_each(&mut ways);
+    println!("{name}");
+    for (i, (w, time)) in ways.iter().zip(&times).enumerate() {
+        print!("    {:<34}{:8.1} ns", w.name, time / look_ups as f64 * 1e9);
+        match i {
+            0 => println!(),
+            _ => println!("   ratio {}", ratio(times[0], *time)),
         }
     }
 }

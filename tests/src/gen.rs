@@ -185,14 +185,30 @@ pub fn random_cp(rng: &mut Rng, above_ffff: bool) -> u32 {
 }
 
 /// Tries to put a line into the table without breaking a rule.
-struct Filler {
+pub struct Filler {
     read: HashSet<Vec<u8>>,
     written: HashSet<u32>,
 }
 
 impl Filler {
-    fn new() -> Filler {
+    pub fn new() -> Filler {
         Filler { read: HashSet::new(), written: HashSet::new() }
+    }
+
+    /// Whether no line so far reads the same code or writes the same code point;
+    /// if so, this one now does.
+    pub fn take(&mut self, line: &Line) -> bool {
+        let (reads, writes) = (oracle::is_read(line.kind), oracle::is_of_code_points(line.kind));
+        if reads && self.read.contains(&line.code) || writes && self.written.contains(&line.cp) {
+            return false;
+        }
+        if reads {
+            self.read.insert(line.code.clone());
+        }
+        if writes {
+            self.written.insert(line.cp);
+        }
+        true
     }
 
     fn add(&mut self, t: &mut Table, line: Line) -> bool {
@@ -200,16 +216,9 @@ impl Filler {
             && oracle::keeps_t6(&line)
             && oracle::keeps_t7(&line)
             && oracle::keeps_t8(t, &line)
-            && !(oracle::is_read(line.kind) && self.read.contains(&line.code))
-            && !(oracle::is_of_code_points(line.kind) && self.written.contains(&line.cp))
-            && t.lines.len() < oracle::MAX_LINES;
+            && t.lines.len() < oracle::MAX_LINES
+            && self.take(&line);
         if fits {
-            if oracle::is_read(line.kind) {
-                self.read.insert(line.code.clone());
-            }
-            if oracle::is_of_code_points(line.kind) {
-                self.written.insert(line.cp);
-            }
             t.lines.push(line);
         }
         fits
@@ -217,7 +226,7 @@ impl Filler {
 }
 
 /// Up to `tries` lines of all indicators; code points and codes meet often.
-fn random_lines(rng: &mut Rng, t: &mut Table, tries: usize) {
+pub fn random_lines(rng: &mut Rng, t: &mut Table, tries: usize) {
     let mut filler = Filler::new();
     let rows = t.rows.clone();
     for _ in 0..tries {

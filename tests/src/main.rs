@@ -14,6 +14,10 @@ mod cases;
 mod gen;
 #[cfg(not(feature = "oracle-only"))]
 mod library;
+#[cfg(not(feature = "oracle-only"))]
+mod looks;
+#[cfg(not(feature = "oracle-only"))]
+mod lookups;
 mod memory;
 mod oracle;
 mod pages;
@@ -325,6 +329,17 @@ fn pages_tests(tally: &mut Tally) {
     }
 }
 
+#[cfg(not(feature = "oracle-only"))]
+fn library_cases(what: &str, cases: &[abi::AbiCase], tally: &mut Tally) {
+    let start = Instant::now();
+    tally.here = 0;
+    for (name, run) in cases {
+        begin(*name);
+        tally.count("library", name, guarded(run));
+    }
+    println!("[library] {} cases of {what}, {:.1} s", cases.len(), start.elapsed().as_secs_f64());
+}
+
 fn library_tests(seed: u64, count: u64, tally: &mut Tally) {
     hand_written(&Oracle, tally);
     random_groups(&Oracle, false, seed, count, tally);
@@ -333,12 +348,8 @@ fn library_tests(seed: u64, count: u64, tally: &mut Tally) {
     {
         let library = library::Library;
         hand_written(&library, tally);
-        tally.here = 0;
-        for (name, run) in abi::CASES.iter().chain(stack::CASES) {
-            begin(*name);
-            tally.count(library.name(), name, guarded(run));
-        }
-        println!("[library] {} cases of the C calls", abi::CASES.len() + stack::CASES.len());
+        library_cases("the C calls", &[abi::CASES, stack::CASES].concat(), tally);
+        library_cases("the look-ups", looks::CASES, tally);
         random_groups(&library, true, seed, count, tally);
     }
     #[cfg(feature = "oracle-only")]

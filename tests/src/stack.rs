@@ -70,7 +70,7 @@ fn deep() -> String {
     format!("{head}{rows}CHARMAP\n{lines}END CHARMAP\n")
 }
 
-fn loaded(text: &[u8]) -> ([u32; 7], Memory) {
+pub fn loaded(text: &[u8]) -> ([u32; 7], Memory) {
     let (mut memory, mut result) = (junk(0), [0; 8]);
     assert_eq!(LINKED.load(text, &mut memory, &mut result), 0, "the table is accepted");
     (std::array::from_fn(|i| result[i + 1] as u32), memory)

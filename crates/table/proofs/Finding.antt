@@ -2,6 +2,9 @@
 -- apart-in                              of stored mappings that keep T9, two that would clash are one
 -- Sought, two-clash                     what is looked for on one side of T9; two of it clash
 -- Reads, readsCode⇒Reads, is-reads             a stored mapping that reads a code, by numbers
+-- reads-in-one                          its length and rank in one test
+-- gap-behind, gap-found                 what the gap says of the line where the search ended
+-- none-at, point-at, point-decided, point-undecided   what a place of the code point's line says
 -- sought-code, code-none, code-first    a code as what is looked for; it is found at the place that the search gives
 -- is-writes, sought-point               a code point as what is looked for
 -- write-out, write-in, write-ordered    it is found by the second order, which finds the same line as the first
@@ -10,20 +13,22 @@ use mathlib.Core.Bool.{Bool, true, false}
 use mathlib.Core.Logic.{_⊎_, inl, inr}
 use mathlib.Core.Option.{none}
 use mathlib.Core.List.{List, [], _∷_, map}
-use Prim.Native.Nat.{ℕ, _+_, _-_, _*_, _<_, _≤_}
+use Prim.Native.Nat.{ℕ, _+_, _-_, _*_, _/_, _<_, _≤_}
 use native.Mathlib.Omega.{arith}
-use lib.Dec.{eqb}
+use lib.Dec.{eqb, ltb}
 use lib.ListN.{length, take, drop, getD}
-use borrow.Author.Tests.{eqb-true, eqb-false, eq-eqb, leb-true, le-leb, ne-eqb}
+use lib.Seq.{getD-take, length-take-le}
+use borrow.Author.Tests.{eqb-true, eqb-false, eq-eqb, leb-true, le-leb, ne-eqb, ltb-true, ltb-false, le-ltb}
 use Rattle.lists.specs.Order.{In, Rising, firstOf, Comparable, prefixLength}
 use Rattle.lists.proofs.Laws.{clash, ¬true⇒false, and-yes, and-left, and-right, drop-∷, drop-past}
 use Rattle.lists.proofs.Order.{firstOf-none, All-In⁺, Pairs-⇒, Pairs-In⁻, headIf, first-prefix, firstOf-unique, In-map⁺, In-map⁻}
 use Rattle.table.specs.Stored.{Stored, mk, bitsOf, infoOf, pointIn, rankIn, extraIn, orderKeyIn, orderKey, less, pointLess, storedIsRead, storedDecides}
 use Rattle.table.specs.Memory.{storedList, storedAt, nth, orderOf}
 use Rattle.table.specs.loops.Search.{readsCode, writesPoint, FirstAt, placeIn, pointPlaceIn, picked, Apart, AllApart}
+use Rattle.table.specs.loops.Search.{storedKey, far, holdsAt, GapAt, CodeGap, PointGap, GapTells, HasPoint}
 use Rattle.table.proofs.StoredLaws.{Side, clashes, reading, writing, readKey, writeKey, Before, less-cases, point-cases, key-writes, apart-sym}
 use Rattle.table.proofs.IndexOrder.{In-orderOf⁻, in-order, nth-in, in-nth}
-use Rattle.table.proofs.Places.{first-out, head-at}
+use Rattle.table.proofs.Places.{first-out, head-at, holds-in, holds-out, taken-point}
 use Rattle.lists.proofs.Parts.{map-drop}
 
 -- two stored mappings are equal or not
@@ -115,7 +120,7 @@ pub is-reads : (code len : ℕ) (e : Stored)
 unfolding readsCode
 is-reads code len e p q r = rw (eq-eqb (e .bits) code p, eq-eqb (extraIn (e .info) + 1) len q, r)
 
-abbrev codeKey : ℕ → ℕ → Stored
+abbrev pub codeKey : ℕ → ℕ → Stored
 codeKey code len = mk code ((len - 1) * 16777216)
 
 pub sought-code : (code len : ℕ) → Sought less readKey storedIsRead (readsCode code len) (codeKey code len)
@@ -153,6 +158,84 @@ code-first n codes infos c-long i-long bits len at r e =
     first-behind reading (sought-code bits len) (storedList (take n codes) (take n infos)) at r e
     ∙ head-at n codes infos c-long i-long (readsCode bits len) at
 
+-- length and rank in one test
+pub reads-in-one : (code len : ℕ) (e : Stored) → e .bits ≡ code → 1 ≤ len
+    → readsCode code len e ≡ eqb (e .info / 4194304) ((len - 1) * 4)
+reads-in-one code len e b lo = go (eqb (e .info / 4194304) ((len - 1) * 4)) refl
+  where
+    go : (t : Bool) → eqb (e .info / 4194304) ((len - 1) * 4) ≡ t → readsCode code len e ≡ t
+    go true p =
+        let q = eqb-true (e .info / 4194304) ((len - 1) * 4) p in
+        is-reads code len e b (omega arith) (le-leb (rankIn (e .info)) 1 (omega arith))
+    go false p =
+        let q = eqb-false (e .info / 4194304) ((len - 1) * 4) p in
+        ¬true⇒false (readsCode code len e) (λ r.
+        let w = readsCode⇒Reads code len e r in
+        q (omega (arith, w .its-len, w .its-rank)))
+
+-- what the gap says at the place where the search ended
+module _ (bits len n : ℕ) (codes infos : List ℕ) (at gap : ℕ) where
+  pub gap-behind : at ≡ n → gap ≡ far → GapTells bits len n codes infos at gap
+  gap-behind p q = record {
+    told = holds-out (readsCode bits len) n codes infos at (omega arith) ∙ sym (le-ltb gap far (omega arith));
+    held = λ h. absurd (omega arith);
+    few = λ h. absurd (omega arith);
+  }
+
+  abbrev here : Stored
+  here = storedAt codes infos at
+
+  module _ (lo : 1 ≤ len) (hi : len ≤ 4) (fits : getD infos at 0 < 4294967296)
+      (e : storedKey here ≡ storedKey (codeKey bits len) + gap) where
+    gap-bits : gap < far → here .bits ≡ bits
+    gap-bits h = omega arith
+
+    gap-info : gap < far → here .info ≡ (len - 1) * 16777216 + gap
+    gap-info h = omega arith
+
+    reads-near : gap < far → readsCode bits len here ≡ true
+    reads-near h =
+        let i = gap-info h in
+        is-reads bits len here (gap-bits h) (omega arith) (le-leb (rankIn (here .info)) 1 (omega arith))
+
+    reads-far : far ≤ gap → readsCode bits len here ≡ false
+    reads-far h = ¬true⇒false (readsCode bits len here) (λ q.
+        let w = readsCode⇒Reads bits len here q in
+        omega (arith, w .its-code, w .its-len, w .its-rank))
+
+    told-at : readsCode bits len here ≡ ltb gap far
+    told-at = go (ltb gap far) refl
+      where
+        go : (t : Bool) → ltb gap far ≡ t → readsCode bits len here ≡ t
+        go true p = reads-near (ltb-true gap far p)
+        go false p = reads-far (ltb-false gap far p)
+
+  pub gap-found : n ≤ length codes → n ≤ length infos → 1 ≤ len → len ≤ 4
+      → getD infos at 0 < 4294967296
+      → GapAt (CodeGap (take n codes) (take n infos) (codeKey bits len)) n at gap
+      → GapTells bits len n codes infos at gap
+  gap-found cl il lo hi fits g = go (ltb at n) refl
+    where
+      at-is : at < n → storedKey here ≡ storedKey (codeKey bits len) + gap
+      at-is h = sym (λ t. getD-take n codes at 0 h t * 4294967296 + getD-take n infos at 0 h t) ∙ g .0 h
+
+      go : (t : Bool) → ltb at n ≡ t → GapTells bits len n codes infos at gap
+      go false p =
+          let h = ltb-false at n p in
+          record {
+            told = holds-out (readsCode bits len) n codes infos at h ∙ sym (le-ltb gap far (omega (arith, g .1 h)));
+            held = λ s. absurd (omega (arith, g .1 h));
+            few = λ s. (lo, hi);
+          }
+      go true p =
+          let h = ltb-true at n p in
+          record {
+            told = holds-in (readsCode bits len) n codes infos at h (omega arith) (omega arith)
+                ∙ told-at lo hi fits (at-is h);
+            held = λ s i. mk (gap-bits lo hi fits (at-is h) s i) (gap-info lo hi fits (at-is h) s i);
+            few = λ s. (lo, hi);
+          }
+
 -- ## A code point
 abbrev pub pointKey : ℕ → Stored
 pointKey point = mk 0 point
@@ -186,6 +269,40 @@ sought-point point = record {
         → (orderKey x < orderKeyIn point) ⊎ ((orderKey x ≡ orderKeyIn point) × (less x (pointKey point) ≡ true)) → ⊥
     go x w (inl h) = omega (arith, key-writes x (w .1), key-writes (pointKey point) (marked x (w .0)), w .0)
     go x w (inr h) = less-no x (w .0) (less-cases x (pointKey point) (h .1))
+
+-- what a place of a line that has the code point says
+module _ (point n : ℕ) (codes infos : List ℕ) where
+  pub none-at : HasPoint point n codes infos n
+  none-at = record {
+    in-codes = λ h. absurd (omega arith);
+    in-infos = λ h. absurd (omega arith);
+    its-point = λ h. absurd (omega arith);
+  }
+
+  pub point-at : (order : List ℕ) (at : ℕ) → n ≤ length codes → n ≤ length infos → at < n
+      → PointGap (take n infos) (take n order) point at 0 → HasPoint point n codes infos (getD order at 0)
+  point-at order at cl il h g =
+      let k = getD order at 0 in
+      let s : k < n = omega (arith, g .0, getD-take n order at 0 h, length-take-le n infos il) in
+      record {
+        in-codes = λ t. omega arith;
+        in-infos = λ t. omega arith;
+        its-point = λ t.
+            let e : point + 0 ≡ point = omega arith in
+            sym (taken-point n infos order at h s) ∙ g .1 ∙ e;
+      }
+
+  module _ (at : ℕ) (w : HasPoint point n codes infos at) (h : at < n) where
+    pub point-decided : (rankIn (getD infos at 0) ≡ 1 → ⊥) → holdsAt (writesPoint point) n codes infos at ≡ true
+    point-decided d =
+        holds-in (writesPoint point) n codes infos at h (w .in-codes h) (w .in-infos h)
+        ∙ is-writes point (storedAt codes infos at) (w .its-point h) (rw (ne-eqb (rankIn (getD infos at 0)) 1 d))
+
+    pub point-undecided : rankIn (getD infos at 0) ≡ 1 → holdsAt (writesPoint point) n codes infos at ≡ false
+    unfolding writesPoint
+    point-undecided e =
+        holds-in (writesPoint point) n codes infos at h (w .in-codes h) (w .in-infos h)
+        ∙ rw (eq-eqb (pointIn (getD infos at 0)) point (w .its-point h), eq-eqb (rankIn (getD infos at 0)) 1 e)
 
 module _ (point : ℕ) (a b o : List ℕ) (at : ℕ) (r : Rising pointLess (picked a b o))
     (e : at ≡ pointPlaceIn (pointKey point) (picked a b o)) where

@@ -13,6 +13,8 @@ pub mod TextLaws
 pub mod LinesLaws
 pub mod MappingLaws
 pub mod MappingCases
+pub mod Looks
+mod Halving
 mod StoredLaws
 mod EntryTests
 mod Entries

@@ -1,5 +1,5 @@
 -- The place of a stored mapping in either order (place-*, point-*), and the stored mapping at a place: that it is one (isAt⇒Inside, in-entries), that a test
--- holds of it (holds-at, holds-in), that it is the first of which one does (first-out, head-at).
+-- holds of it (holds-at, holds-in, holds-out), that it is the first of which one does (first-out, head-at).
 use mathlib.Core.Path.{_≡_, refl, sym, _∙_}
 use mathlib.Core.Bool.{Bool, true, false}
 use mathlib.Core.Logic.{inl, inr}
@@ -16,7 +16,7 @@ use Rattle.lists.specs.Order.{In, Rising, firstOf}
 use Rattle.lists.proofs.Cases.{pick-no}
 use Rattle.lists.proofs.Laws.{and-left, and-right}
 use Rattle.lists.proofs.Order.{prefix-le, prefix-no, prefix-yes, headIf}
-use Rattle.table.specs.Stored.{Stored, mk, less, pointLess}
+use Rattle.table.specs.Stored.{Stored, mk, pointIn, less, pointLess}
 use Rattle.table.specs.Memory.{storedList, storedAt}
 use Rattle.table.specs.loops.Search.{isAt, holdsAt, FirstAt, placeIn, pointPlaceIn, picked}
 use Rattle.table.proofs.StoredLaws.{less-trans, point-trans}
@@ -113,7 +113,7 @@ module _ (f : Stored → Bool) (n : ℕ) (codes infos : List ℕ) (at : ℕ) whe
   unfolding holdsAt isAt
   holds-in p q r = rw (lt-ltb at n p, lt-ltb at (length codes) q, lt-ltb at (length infos) r)
 
-  holds-out : n ≤ at → holdsAt f n codes infos at ≡ false
+  pub holds-out : n ≤ at → holdsAt f n codes infos at ≡ false
   unfolding holdsAt isAt
   holds-out h = rw (le-ltb at n h)
 
@@ -124,6 +124,12 @@ pub first-out : (f : Stored → Bool) (n : ℕ) (codes infos : List ℕ)
 first-out f n codes infos e =
     e ∙ sym (pick-no (holdsAt f n codes infos n) (some (storedAt codes infos n)) none
     (holds-out f n codes infos n (omega arith)))
+
+-- the code point behind an index of the first n
+pub taken-point : (n : ℕ) (infos order : List ℕ) (at : ℕ) → at < n → getD order at 0 < n
+    → pointIn (getD (take n infos) (getD (take n order) at 0) 0) ≡ pointIn (getD infos (getD order at 0) 0)
+taken-point n infos order at h s =
+    (λ t. pointIn (getD (take n infos) (getD-take n order at 0 h t) 0)) ∙ (λ t. pointIn (getD-take n infos (getD order at 0) 0 s t))
 
 -- look-up of a code over the first n of the slices
 module _ (n : ℕ) (codes infos : List ℕ) (c-long : n ≤ length codes) (i-long : n ≤ length infos) where

@@ -11,6 +11,7 @@ pub mod Keys
 pub mod Valid
 pub mod Forms
 pub mod Lookup
+pub mod Looks
 pub mod Text
 pub mod Row
 pub mod Header

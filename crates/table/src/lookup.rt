@@ -2,6 +2,7 @@
 // of a code point.
 use crate::states::Code;
 use crate::store::EXTRA;
+use crate::store::FAR;
 use crate::store::RANK;
 use crate::valid::Record;
 ghost use mathlib.Core.Path.{_≡_};
@@ -61,13 +62,13 @@ fn mapping_of(bits: u32, info: u32) -> Mapping
     }
 }
 
-// The line that reads a code.
+// The line that reads a code. It is not read again: the search hands on its rank and code point.
 pub fn find_code(rec: Record, codes: &[u32], infos: &[u32], code: Code) -> Found
     ensures { λ r. ⌜ CodeFound rec (now (codes .entry)) (now (infos .entry)) code r ⌝ }
 {
-    let at = crate::store::code_place(codes, infos, rec.mappings, code);
-    if crate::store::reads_at(codes, infos, rec.mappings, code, at) {
-        return Found::Line(mapping_of(codes[at], infos[at]));
+    let spot = crate::store::code_place(codes, infos, rec.mappings, code);
+    if spot.gap < FAR {
+        return Found::Line(mapping_of(code.bits, (code.len - 1) * EXTRA + spot.gap as u32));
     }
     Found::Nothing
 }
@@ -83,15 +84,19 @@ pub fn find_code_near(rec: Record, codes: &[u32], infos: &[u32], code: Code, at:
     find_code(rec, codes, infos, code)
 }
 
-// The line that says what becomes of a code point.
+// The line that says what becomes of a code point: the first in the second order that has it, unless that is a `|3`
+// line.
 pub fn find_point(rec: Record, codes: &[u32], infos: &[u32], order: &[u32], point: u32) -> Found
     ensures { λ r. ⌜ PointFound rec (now (codes .entry)) (now (infos .entry)) (now (order .entry)) point r ⌝ }
 {
     let at = crate::store::point_place(codes, infos, order, rec.mappings, point);
-    if crate::store::writes_at(codes, infos, rec.mappings, point, at) {
-        return Found::Line(mapping_of(codes[at], infos[at]));
+    if (rec.mappings as usize) <= at {
+        return Found::Nothing;
     }
-    Found::Nothing
+    if infos[at] / RANK % 8 == 1 {
+        return Found::Nothing;
+    }
+    Found::Line(mapping_of(codes[at], infos[at]))
 }
 
 // The same, with one look at a place of the first order before the search.

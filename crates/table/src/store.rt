@@ -3,7 +3,7 @@
 use crate::states::Code;
 ghost use mathlib.Core.Path.{_≡_};
 ghost use mathlib.Core.Bool.{true};
-ghost use mathlib.Core.List.{_++_, map};
+ghost use mathlib.Core.List.{List, _++_, map};
 ghost use Prim.Native.Nat.{ℕ, _+_, _-_, _≤_, _<_};
 ghost use lib.ListN.{length, take, drop};
 ghost use Rattle.lists.specs.Order.{All, Rising, insert};
@@ -12,6 +12,7 @@ ghost use Rattle.table.specs.Limits.{limits};
 ghost use Rattle.table.specs.Memory.{storedList, orderOf};
 ghost use Rattle.table.specs.loops.Search.{readsCode, writesPoint, isAt, holdsAt, FirstAt, placeIn, pointPlaceIn};
 ghost use Rattle.table.specs.loops.Search.{picked, readTaken, writeTaken, Ready, Kept};
+ghost use Rattle.table.specs.loops.Search.{storedKey, far, GapAt, CodeGap, PointGap, GapTells, HasPoint};
 ghost use Rattle.lists.specs.Place.{shiftIn, bump};
 ghost use Rattle.table.specs.Valid.{storeOk};
 ghost use Rattle.lists.specs.Tests.{zeros};
@@ -75,30 +76,63 @@ pub(crate) fn zeros_ok(xs: &[u32]) -> bool
     true
 }
 
-// The place of the first stored mapping that is not less than (c, i), or their count, if they rise. A binary search: at
-// most 12 of 2,048 stored mappings are looked at.
-fn place(codes: &[u32], infos: &[u32], c: u32, i: u32) -> usize
+// Before a code in the key of the first order: 2^32.
+const CODE: u64 = 4294967296;
+
+// The key of the first order: the code, then the second number.
+fn stored_key(c: u32, i: u32) -> u64
+    ensures { λ r. ⌜ r ≡ storedKey (mk c i) ⌝ }
+{
+    c as u64 * CODE + i as u64
+}
+
+// Where a search by halving ended: a place, and the gap, by how much the key of the line there (in `first_of_point` its
+// code point) is more than the one looked for; FAR if the place is behind the last line. Each turn looks at one line
+// and leaves half of the lines, rounded down, so at most `looksFor n` of n lines are looked at; the one that it ends at
+// is among them.
+pub(crate) struct Spot {
+    pub at: usize,
+    pub gap: u64,
+}
+
+// The gap behind the last line. A line that is looked for has less: a rank of 0 or 1 and a code point.
+pub(crate) const FAR: u64 = RANK as u64 * 2;
+
+// Behind the last of n lines.
+fn behind(n: usize) -> Spot
+    ensures { λ r. ⌜ (r .at ≡ n) × (r .gap ≡ far) ⌝ }
+{
+    Spot { at: n, gap: FAR }
+}
+
+// The place of the first stored mapping that is not less than (c, i), or their count, if they rise.
+fn place(codes: &[u32], infos: &[u32], c: u32, i: u32) -> Spot
     requires { ⌜ length (now codes) ≡ length (now infos) ⌝ }
     ensures { λ r. ⌜ (let all = storedList (now (codes .entry)) (now (infos .entry)) in
-        (r ≤ length (now (codes .entry)))
-        × (Rising less all → r ≡ placeIn (mk c i) all)) ⌝ }
+        (r .at ≤ length (now (codes .entry)))
+        × GapAt (CodeGap (now (codes .entry)) (now (infos .entry)) (mk c i))
+        (length (now (codes .entry))) (r .at) (r .gap)
+        × (Rising less all → r .at ≡ placeIn (mk c i) all)) ⌝ }
 {
+    let sought = stored_key(c, i);
     let mut base: usize = 0;
     let mut size: usize = codes.len();
+    let mut gap = FAR;
     while 0 < size {
         let half = size / 2;
         let mid = base + half;
-        if stored_less(codes[mid], infos[mid], c, i) {
-            base = mid + 1;
-            size = size - half - 1;
+        let key = stored_key(codes[mid], infos[mid]);
+        if key < sought {
+            base = mid + size % 2;
         } else {
-            size = half;
+            gap = key - sought;
         }
+        size = half;
     }
-    base
+    Spot { at: base, gap: gap }
 }
 
-// The same in the second order, through the indices; one that is out of range ends the search.
+// The same place in the second order, without the gap; an index out of range ends the search.
 fn place_point(codes: &[u32], infos: &[u32], order: &[u32], c: u32, i: u32) -> usize
     requires { ⌜ length (now codes) ≡ length (now infos) ⌝ }
     ensures { λ r. ⌜ (let all = picked (now (codes .entry)) (now (infos .entry)) (now (order .entry)) in
@@ -116,26 +150,62 @@ fn place_point(codes: &[u32], infos: &[u32], order: &[u32], c: u32, i: u32) -> u
             return base;
         }
         if point_less(codes[k], infos[k], c, i) {
-            base = mid + 1;
-            size = size - half - 1;
-        } else {
-            size = half;
+            base = mid + size % 2;
         }
+        size = half;
     }
     base
 }
 
-// Whether a stored line reads a code.
+// The place in the second order of the first mapping whose code point is not less, or the count of mappings, if they
+// rise; where an index out of range is met, the count. Lines that write stand first, so a code point's first line says
+// what becomes of it, if any does.
+fn first_of_point(infos: &[u32], order: &[u32], point: u32) -> Spot
+    requires { ⌜ point < 2097152 ⌝ }
+    ensures { λ r. ⌜ (r .at ≤ length (now (order .entry)))
+        × GapAt (PointGap (now (infos .entry)) (now (order .entry)) point)
+        (length (now (order .entry))) (r .at) (r .gap)
+        × ((codes : List ℕ) → All (λ k. k < length (now (infos .entry))) (now (order .entry))
+        → Rising pointLess (picked codes (now (infos .entry)) (now (order .entry)))
+        → r .at ≡ pointPlaceIn (mk 0 point) (picked codes (now (infos .entry)) (now (order .entry)))) ⌝ }
+{
+    let mut base: usize = 0;
+    let mut size: usize = order.len();
+    let mut gap = FAR;
+    while 0 < size {
+        let half = size / 2;
+        let mid = base + half;
+        let k = order[mid] as usize;
+        if infos.len() <= k {
+            return behind(order.len());
+        }
+        let here = infos[k] % RANK;
+        if here < point {
+            base = mid + size % 2;
+        } else {
+            gap = (here - point) as u64;
+        }
+        size = half;
+    }
+    Spot { at: base, gap: gap }
+}
+
+// Whether a stored line reads a code. Length and rank are one test: divided by 2 RANKs, the second number is 4 for each
+// byte after the first, plus half the rank, rounded down, which is 0 for the ranks 0 and 1. No line has more than 256
+// bytes.
 fn reads_code(c: u32, i: u32, code: Code) -> bool
     ensures { λ r. ⌜ r ≡ readsCode (code .bits) (code .len) (mk c i) ⌝ }
 {
     if c != code.bits {
         return false;
     }
-    if i / EXTRA + 1 != code.len {
+    if code.len < 1 {
         return false;
     }
-    i / RANK % 8 <= 1
+    if 256 < code.len {
+        return false;
+    }
+    i / (RANK * 2) == (code.len - 1) * 4
 }
 
 // Whether the stored line with the second number i says what becomes of a code point.
@@ -151,34 +221,37 @@ fn writes_point(i: u32, point: u32) -> bool
     true
 }
 
-// The place of the stored mapping that reads a code, if one of the first n does and they rise.
-pub(crate) fn code_place(codes: &[u32], infos: &[u32], n: u32, code: Code) -> usize
+// Where the stored mapping that reads a code is, if one of the first n does and they rise. The line there reads the
+// code if and only if the gap is less than FAR; the gap is then its rank and code point.
+pub(crate) fn code_place(codes: &[u32], infos: &[u32], n: u32, code: Code) -> Spot
     ensures { λ r. ⌜ (Rising less (storedList (take n (now (codes .entry))) (take n (now (infos .entry))))
         → n ≤ length (now (codes .entry)) → n ≤ length (now (infos .entry)) → code .len ≤ 4
-        → FirstAt (readsCode (code .bits) (code .len)) n (now (codes .entry)) (now (infos .entry)) r) ⌝ }
+        → FirstAt (readsCode (code .bits) (code .len)) n (now (codes .entry)) (now (infos .entry)) (r .at))
+        × GapTells (code .bits) (code .len) n (now (codes .entry)) (now (infos .entry)) (r .at) (r .gap) ⌝ }
 {
     let m = n as usize;
     if codes.len() < m {
-        return m;
+        return behind(m);
     }
     if infos.len() < m {
-        return m;
+        return behind(m);
     }
     if code.len < 1 {
-        return m;
+        return behind(m);
     }
     if 4 < code.len {
-        return m;
+        return behind(m);
     }
     place(&codes[..m], &infos[..m], code.bits, (code.len - 1) * EXTRA)
 }
 
 // The place, in the first order, of the stored mapping that says what becomes of a code point, if one does and the
-// mappings pass the test behind 60.
+// mappings pass the test behind 60. A place below n is that of a line that has the code point.
 pub(crate) fn point_place(codes: &[u32], infos: &[u32], order: &[u32], n: u32, point: u32) -> usize
     ensures { λ r. ⌜ ((limit : ℕ)
         → storeOk limit n (now (codes .entry)) (now (infos .entry)) (now (order .entry)) ≡ true
-        → FirstAt (writesPoint point) n (now (codes .entry)) (now (infos .entry)) r) ⌝ }
+        → FirstAt (writesPoint point) n (now (codes .entry)) (now (infos .entry)) r)
+        × HasPoint point n (now (codes .entry)) (now (infos .entry)) r ⌝ }
 {
     let m = n as usize;
     if codes.len() < m {
@@ -193,10 +266,11 @@ pub(crate) fn point_place(codes: &[u32], infos: &[u32], order: &[u32], n: u32, p
     if RANK <= point {
         return m;
     }
-    let at = place_point(&codes[..m], &infos[..m], &order[..m], 0, point);
-    if m <= at {
+    let spot = first_of_point(&infos[..m], &order[..m], point);
+    if spot.gap != 0 {
         return m;
     }
+    let at = spot.at;
     order[at] as usize
 }
 
@@ -247,8 +321,8 @@ pub(crate) fn read_taken(codes: &[u32], infos: &[u32], n: u32, c: u32, i: u32) -
         bits: c,
         len: i / EXTRA + 1,
     };
-    let at = code_place(codes, infos, n, code);
-    reads_at(codes, infos, n, code, at)
+    let spot = code_place(codes, infos, n, code);
+    spot.gap < FAR
 }
 
 // Whether a stored line writes the same code point as the new one.
@@ -330,7 +404,8 @@ pub(crate) fn insert_stored(
         × (now (order .exit) ≡ orderOf all ++ drop (n + 1) (now (order .entry)))) ⌝ }
 {
     let m = n as usize;
-    let at = place(&codes[..m], &infos[..m], c, i);
+    let spot = place(&codes[..m], &infos[..m], c, i);
+    let at = spot.at;
     let pos = place_point(&codes[..m], &infos[..m], &order[..m], c, i);
     renumber(order, m, at);
     shift_in(order, m, pos, at as u32);

@@ -1,14 +1,15 @@
 -- Looking up and inserting, over stored mappings.
-use Prim.Native.Nat.{ℕ, _+_, _<_}
+use Prim.Native.Nat.{ℕ, _+_, _-_, _*_, _<_, _≤_}
 use mathlib.Core.Bool.{Bool, false}
 use mathlib.Core.Path.{_≡_}
 use mathlib.Core.Option.{none, some}
 use mathlib.Core.List.{List, map}
 use lib.Dec.{ltb, eqb}
-use lib.ListN.{length, take}
+use lib.ListN.{length, take, getD}
 use Rattle.lists.specs.Pick.{if_then_else_, _and_}
 use Rattle.lists.specs.Order.{All, Rising, prefixLength, firstOf, Pairs}
-use Rattle.table.specs.Stored.{Stored, pointIn, extraIn, storedIsRead, storedDecides, less, pointLess, readClash}
+use Rattle.table.specs.Stored.{Stored, mk, pointIn, extraIn, storedIsRead, storedDecides}
+use Rattle.table.specs.Stored.{less, pointLess, readClash}
 use Rattle.table.specs.Stored.{writeClash}
 use Rattle.table.specs.Memory.{storedList, storedAt, orderOf, SlicesHold}
 use Rattle.lists.specs.Tests.{anyOf}
@@ -33,6 +34,41 @@ abbrev pub FirstAt : (Stored → Bool) → ℕ → List ℕ → List ℕ → ℕ
 FirstAt f n codes infos at =
     firstOf f (storedList (take n codes) (take n infos))
     ≡ (if holdsAt f n codes infos at then some (storedAt codes infos at) else none)
+
+-- ## Where a search by halving ends
+-- the key of the first order
+abbrev pub storedKey : Stored → ℕ
+storedKey e = e .bits * 4294967296 + e .info
+
+-- the gap behind the last line: 2 ranks, more than any line has that is looked for
+abbrev pub far : ℕ
+far = 4194304
+
+-- of n lines, the one at the place has the gap; behind the last the gap is `far`
+abbrev pub GapAt : (ℕ → ℕ → Type 0) → ℕ → ℕ → ℕ → Type 0
+GapAt Has n at gap = (at < n → Has at gap) × (n ≤ at → gap ≡ far)
+
+-- the line at the place has the key looked for plus the gap
+abbrev pub CodeGap : List ℕ → List ℕ → Stored → ℕ → ℕ → Type 0
+CodeGap codes infos e at gap = storedKey (storedAt codes infos at) ≡ storedKey e + gap
+
+-- the index at the place is in range, and its line has the code point plus the gap
+abbrev pub PointGap : List ℕ → List ℕ → ℕ → ℕ → ℕ → Type 0
+PointGap infos order point at gap =
+    (getD order at 0 < length infos) × (pointIn (getD infos (getD order at 0) 0) ≡ point + gap)
+
+-- the line at the place reads the code if and only if the gap is less than `far`; the gap is then its rank and code
+-- point, and the code has 1 to 4 bytes
+pub record GapTells (bits len n : ℕ) (codes infos : List ℕ) (at gap : ℕ) : Type 0 where
+  pub told : holdsAt (readsCode bits len) n codes infos at ≡ ltb gap far
+  pub held : gap < far → storedAt codes infos at ≡ mk bits ((len - 1) * 16777216 + gap)
+  pub few : gap < far → (1 ≤ len) × (len ≤ 4)
+
+-- a place of the first n stored mappings is that of one that has the code point
+pub record HasPoint (point n : ℕ) (codes infos : List ℕ) (at : ℕ) : Type 0 where
+  pub in-codes : at < n → at < length codes
+  pub in-infos : at < n → at < length infos
+  pub its-point : at < n → pointIn (getD infos at 0) ≡ point
 
 -- where a stored mapping belongs in either order
 abbrev pub placeIn : Stored → List Stored → ℕ

@@ -115,17 +115,17 @@ returns c =
     (entry-3 (after-shift-in-2 c .before) .pre) in
     let zn = point-needs (a .n) (a .codes .now) (a .infos .now) (a .order .now) (mk (a .c) (a .i))
     (entry-3 (after-shift-in-2 c .before) .pre) in
-    let pe = p .ensures .1 (pn .1) in
+    let pe = p .ensures .2 (pn .1) in
     let ze = z .ensures .1 (zn .1) (zn .2) in (
       c .before .before .before .before .before .before .shift-in2 .ensures
           ∙ codes-done (a .n) (a .codes .now) (a .infos .now) (a .order .now) (mk (a .c) (a .i))
-          (entry-3 (after-shift-in-2 c .before) .pre) (p .result) (omega (arith, p .ensures .0)) pe,
+          (entry-3 (after-shift-in-2 c .before) .pre) (p .result .at) (omega (arith, p .ensures .0)) pe,
       c .before .before .shift-in3 .ensures
           ∙ infos-done (a .n) (a .codes .now) (a .infos .now) (a .order .now) (mk (a .c) (a .i))
-          (entry-3 (after-shift-in-2 c .before) .pre) (p .result) (omega (arith, p .ensures .0)) pe,
+          (entry-3 (after-shift-in-2 c .before) .pre) (p .result .at) (omega (arith, p .ensures .0)) pe,
       after-shift-in-2 c .shift-in .ensures
           ∙ order-done (a .n) (a .codes .now) (a .infos .now) (a .order .now) (mk (a .c) (a .i))
-          (entry-3 (after-shift-in-2 c .before) .pre) (p .result) (z .result) _ (omega (arith, z .ensures .0)) pe ze
+          (entry-3 (after-shift-in-2 c .before) .pre) (p .result .at) (z .result) _ (omega (arith, z .ensures .0)) pe ze
           (after-shift-in-2 c .before .before .before .before .renumber .ensures),
     )
 

@@ -1,7 +1,10 @@
--- Invariant: if the indices are in range and the stored mappings rise, the place lies among the size positions from base on. Measure: size.
+-- Invariant: if the indices are in range and the lines rise, the place is among the places left. Measure: the looks left.
+use Rattle.table.proofs.Looks.{looks-less}
+use Rattle.table.proofs.Halving.{Among, among-yes, among-no, among-one}
 use Rattle.table.proofs.Places.{point-le, point-yes, point-no}
 use Rattle.lists.proofs.Order.{All-getD⁻}
 use Rattle.lists.specs.Order.{Rising, All}
+use Rattle.table.specs.Looks.{looksFor}
 use Rattle.table.specs.loops.Search.{pointPlaceIn, picked}
 use Rattle.table.specs.Stored.{mk, pointLess}
 use mathlib.Core.Path.{sym, _∙_}
@@ -16,10 +19,10 @@ abbrev Inv-loop : tie.InvT-loop
 Inv-loop codes infos order c i base₀ size₀ base size =
     (base + size ≤ length order)
     × (All (λ k. k < length codes) order → Rising pointLess (picked codes infos order)
-    → (base ≤ pointPlaceIn (mk c i) (picked codes infos order)) × (pointPlaceIn (mk c i) (picked codes infos order) ≤ base + size))
+    → Among base size (pointPlaceIn (mk c i) (picked codes infos order)))
 
 abbrev μ-loop : tie.MeasureT-loop
-μ-loop codes infos order c i base₀ size₀ base size = size
+μ-loop codes infos order c i base₀ size₀ base size = looksFor size
 
 abbrev entry : tie.At-loop Inv-loop μ-loop → tie.Start Inv-loop μ-loop
 entry c = c .before .before .before .before
@@ -47,17 +50,21 @@ returns c =
           absurd (omega (arith, c .if1 .taken, h)),
     )
 
+loop-less : tie.Need-loop-less Inv-loop μ-loop
+loop-less c = looks-less (turn (c .before) .loop .size) (omega arith)
+
 loop-again : tie.Need-loop-again Inv-loop μ-loop
 loop-again c =
     let a = entry (turn (c .before)) .args in
     let l = turn (c .before) .loop in
     let t = sym (c .before .point-less .ensures) ∙ c .if2 .taken in (
       omega arith,
-      λ q r.
-          let w = l .inv .1 q r in
-          let h = point-yes (a .codes .now) (a .infos .now) (a .order .now) (mk (a .c) (a .i)) r (l .base + l .size / 2) (omega arith) t in
-          (omega (arith, w .0), omega (arith, w .1)),
+      λ q r. among-yes (l .base) (l .size) _ (l .inv .1 q r)
+          (point-yes (a .codes .now) (a .infos .now) (a .order .now) (mk (a .c) (a .i)) r (l .base + l .size / 2) (omega arith) t),
     )
+
+loop-less-2 : tie.Need-loop-less-2 Inv-loop μ-loop
+loop-less-2 c = looks-less (turn (c .before) .loop .size) (omega arith)
 
 loop-again-2 : tie.Need-loop-again-2 Inv-loop μ-loop
 loop-again-2 c =
@@ -65,21 +72,18 @@ loop-again-2 c =
     let l = turn (c .before) .loop in
     let t = sym (c .before .point-less .ensures) ∙ c .if2 .left in (
       omega arith,
-      λ q r.
-          let w = l .inv .1 q r in
-          let h = point-no (a .codes .now) (a .infos .now) (a .order .now) (mk (a .c) (a .i)) (l .base + l .size / 2) (omega arith) t in
-          (omega (arith, w .0), omega (arith, w .1)),
+      λ q r. among-no (l .base) (l .size) _ (l .inv .1 q r)
+          (point-no (a .codes .now) (a .infos .now) (a .order .now) (mk (a .c) (a .i)) (l .base + l .size / 2) (omega arith) t),
     )
 
 returns-2 : tie.Need-returns-2 Inv-loop μ-loop
 returns-2 c =
     let l = c .before .loop in
-    (omega arith, λ q r. let w = l .inv .1 q r in omega (arith, w .0, w .1))
+    (omega arith, λ q r. among-one (l .base) (l .size) _ (omega arith) (l .inv .1 q r))
 
 pub place-point-spec : {M : Type 1} → statement M
 place-point-spec =
     tie.close
     (tie.spec Inv-loop μ-loop loop-holds (λ c. search needs) (λ c. search needs) (λ c. search needs) cast-k
     returns (λ c. search needs) (λ c. search needs) (λ c. search needs) (λ c. search needs)
-    (λ c κs. search needs) (λ c. search needs) (λ c. search needs) (λ c. search needs) (λ c. search needs)
-    loop-again (λ c. search needs) loop-again-2 returns-2)
+    (λ c κs. search needs) (λ c. search needs) loop-less loop-again loop-less-2 loop-again-2 returns-2)

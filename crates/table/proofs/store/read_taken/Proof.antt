@@ -1,4 +1,4 @@
--- A line clashes where the place that the search gives has one that reads the new line's code.
+-- A line clashes where the gap says that one reads the new line's code.
 use Rattle.table.proofs.Taken.{read-not-taken, readTaken-holdsAt}
 use Rattle.table.specs.Memory.{storedList}
 use Rattle.table.specs.Stored.{mk}
@@ -19,9 +19,9 @@ returns-2 c =
     let s = c .before .before .before .before .before in
     let a = s .args in
     let q = c .before .code-place in
-    let first = q .ensures (s .pre .2) (s .pre .0) (s .pre .1) (omega (arith, s .pre .3)) in
-    c .reads-at .ensures ∙ sym (readTaken-holdsAt (mk (a .c) (a .i)) (a .n) (a .codes .now) (a .infos .now) (q .result) (c .before .before .if1 .left) first)
+    let first = q .ensures .0 (s .pre .2) (s .pre .0) (s .pre .1) (omega (arith, s .pre .3)) in
+    sym (q .ensures .1 .told) ∙ sym (readTaken-holdsAt (mk (a .c) (a .i)) (a .n) (a .codes .now) (a .infos .now) (q .result .at) (c .before .before .if1 .left) first)
 
 pub read-taken-spec : {M : Type 1} → statement M
 read-taken-spec =
-    tie.close (tie.spec returns (λ c. search needs) (λ c κs. search needs) (λ c κs. search needs) returns-2)
+    tie.close (tie.spec returns (λ c. search needs) (λ c κs. search needs) returns-2)

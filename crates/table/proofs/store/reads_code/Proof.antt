@@ -1,8 +1,10 @@
--- The definition's three tests, in its order; the length that the code compares.
-use Prim.Native.Nat.{_+_, _/_}
-use mathlib.Core.Path.{_≡_}
+-- The code by itself, then length and rank in one test (reads-in-one).
+use Prim.Native.Nat.{_-_}
+use mathlib.Core.Path.{sym}
+use Rattle.table.specs.Stored.{mk}
 use Rattle.table.specs.loops.Search.{readsCode}
-use Rattle.lists.proofs.Laws.{tests}
+use Rattle.table.proofs.Finding.{readsCode⇒Reads, reads-in-one}
+use Rattle.lists.proofs.Laws.{tests, ¬true⇒false}
 use native.Mathlib.Omega.{arith}
 use borrow.Author.Needs.{needs}
 use Rattle.table.proofs.store.reads_code.Statement.{statement}
@@ -13,18 +15,21 @@ unfolding readsCode
 returns c = search tests
 
 returns-2 : tie.Need-returns-2
-unfolding readsCode
 returns-2 c =
     let a = c .before .before .before .before .args in
-    let d : a .i / 16777216 + 1 ≡ a .code .len → ⊥ = λ e. omega (arith, c .if2 .taken) in
-    search tests
+    sym (¬true⇒false (readsCode (a .code .bits) (a .code .len) (mk (a .c) (a .i)))
+    (λ r. omega (arith, c .if2 .taken, readsCode⇒Reads (a .code .bits) (a .code .len) (mk (a .c) (a .i)) r .its-len)))
 
 returns-3 : tie.Need-returns-3
-unfolding readsCode
 returns-3 c =
-    let a = c .before .before .before .before .args in
-    let d : a .i / 16777216 + 1 ≡ a .code .len = omega (arith, c .if2 .left) in
-    search tests
+    let a = c .before .before .before .before .before .before .args in
+    sym (¬true⇒false (readsCode (a .code .bits) (a .code .len) (mk (a .c) (a .i)))
+    (λ r. omega (arith, c .if3 .taken, readsCode⇒Reads (a .code .bits) (a .code .len) (mk (a .c) (a .i)) r .its-len)))
+
+returns-4 : tie.Need-returns-4
+returns-4 c =
+    let a = c .before .before .before .before .before .before .before .args in
+    sym (reads-in-one (a .code .bits) (a .code .len) (mk (a .c) (a .i)) (omega (arith, c .before .before .before .before .before .if1 .left)) (omega arith))
 
 pub reads-code-spec : {M : Type 1} → statement M
-reads-code-spec = tie.close (tie.spec returns (λ c. search needs) returns-2 returns-3)
+reads-code-spec = tie.close (tie.spec returns returns-2 returns-3 (λ c. search needs) (λ c. search needs) (λ c. search needs) returns-4)

@@ -20,7 +20,7 @@ returns-2 c =
     let s = c .before .before .before .before .before .before in
     let a = s .args in
     let q = c .before .point-place in
-    let first = q .ensures (limits .mappings) (form-store (limits .mappings) (a .n) (a .codes .now) (a .infos .now) (a .order .now) (s .pre)) in
+    let first = q .ensures .0 (limits .mappings) (form-store (limits .mappings) (a .n) (a .codes .now) (a .infos .now) (a .order .now) (s .pre)) in
     c .writes-at .ensures ∙ sym (writeTaken-holdsAt (mk (a .c) (a .i)) (a .n) (a .codes .now) (a .infos .now) (q .result) (c .before .before .if1 .left) first)
 
 pub write-taken-spec : {M : Type 1} → statement M
