@@ -12,7 +12,7 @@ use std::collections::HashMap;
 
 /// Look-ups in one call.
 const WANTED: usize = 8_192;
-const COUNTS: [usize; 3] = [16, 256, MAPPINGS];
+const COUNTS: [usize; 4] = [16, 256, 1_500, MAPPINGS];
 
 /// The unit of what stands above the lower 32 bits.
 const WORD: u64 = 1 << 32;

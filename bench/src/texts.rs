@@ -132,13 +132,19 @@ pub fn scattered() -> (Vec<Mapping>, Vec<Mapping>) {
     (mapped, others)
 }
 
-/// The text of the same table with its lines in two orders, under the names of
-/// the figures.
-pub fn load_texts() -> [(&'static str, Vec<u8>); 2] {
+/// The text of the same table with its lines in three orders, under the names
+/// of the figures. ICU's own tables are sorted by code point.
+pub fn load_texts() -> [(&'static str, Vec<u8>); 3] {
     let ordered = mappings();
+    let mut by_point = mappings();
+    by_point.sort_by_key(|m| m.cp);
     let mut shuffled = mappings();
     shuffle(&mut shuffled);
-    [("load, lines in order", table_text(&ordered)), ("load, lines shuffled", table_text(&shuffled))]
+    [
+        ("load, lines in order", table_text(&ordered)),
+        ("load, lines by code point", table_text(&by_point)),
+        ("load, lines shuffled", table_text(&shuffled)),
+    ]
 }
 
 /// The shares of ASCII, of other single bytes and of two-byte codes.

@@ -19,13 +19,14 @@ use lib.Dec.{eqb, ltb}
 use lib.ListN.{length, take, drop, getD}
 use lib.Seq.{getD-take, length-take-le}
 use borrow.Author.Tests.{eqb-true, eqb-false, eq-eqb, leb-true, le-leb, ne-eqb, ltb-true, ltb-false, le-ltb}
+use Rattle.lists.specs.Pick.{pick}
 use Rattle.lists.specs.Order.{In, Rising, firstOf, Comparable, prefixLength}
 use Rattle.lists.proofs.Laws.{clash, ¬true⇒false, and-yes, and-left, and-right, drop-∷, drop-past}
 use Rattle.lists.proofs.Order.{firstOf-none, All-In⁺, Pairs-⇒, Pairs-In⁻, headIf, first-prefix, firstOf-unique, In-map⁺, In-map⁻}
 use Rattle.table.specs.Stored.{Stored, mk, bitsOf, infoOf, pointIn, rankIn, extraIn, orderKeyIn, orderKey, less, pointLess, storedIsRead, storedDecides}
 use Rattle.table.specs.Memory.{storedList, storedAt, nth, orderOf}
 use Rattle.table.specs.loops.Search.{readsCode, writesPoint, FirstAt, placeIn, pointPlaceIn, picked, Apart, AllApart}
-use Rattle.table.specs.loops.Search.{storedKey, far, holdsAt, GapAt, CodeGap, PointGap, GapTells, HasPoint}
+use Rattle.table.specs.loops.Search.{storedKey, far, holdsAt, GapAt, CodeGap, pointSeen, PointGap, GapTells, HasPoint}
 use Rattle.table.proofs.StoredLaws.{Side, clashes, reading, writing, readKey, writeKey, Before, less-cases, point-cases, key-writes, apart-sym}
 use Rattle.table.proofs.IndexOrder.{In-orderOf⁻, in-order, nth-in, in-nth}
 use Rattle.table.proofs.Places.{first-out, head-at, holds-in, holds-out, taken-point}
@@ -270,6 +271,17 @@ sought-point point = record {
     go x w (inl h) = omega (arith, key-writes x (w .1), key-writes (pointKey point) (marked x (w .0)), w .0)
     go x w (inr h) = less-no x (w .0) (less-cases x (pointKey point) (h .1))
 
+-- a code point that is seen is that of a line
+point-seen : (infos order : List ℕ) (at point : ℕ) → point < 2097152 → pointSeen infos order at ≡ point
+    → (getD order at 0 < length infos) × (pointIn (getD infos (getD order at 0) 0) ≡ point)
+point-seen infos order at point small e = go (ltb (getD order at 0) (length infos)) refl e
+  where
+    go : (t : Bool) → ltb (getD order at 0) (length infos) ≡ t
+        → pick t (pointIn (getD infos (getD order at 0) 0)) 2097152 ≡ point
+        → (getD order at 0 < length infos) × (pointIn (getD infos (getD order at 0) 0) ≡ point)
+    go true p q = (ltb-true (getD order at 0) (length infos) p, q)
+    go false p q = absurd (omega (arith, q))
+
 -- what a place of a line that has the code point says
 module _ (point n : ℕ) (codes infos : List ℕ) where
   pub none-at : HasPoint point n codes infos n
@@ -279,17 +291,17 @@ module _ (point n : ℕ) (codes infos : List ℕ) where
     its-point = λ h. absurd (omega arith);
   }
 
-  pub point-at : (order : List ℕ) (at : ℕ) → n ≤ length codes → n ≤ length infos → at < n
+  pub point-at : (order : List ℕ) (at : ℕ) → n ≤ length codes → n ≤ length infos → at < n → point < 2097152
       → PointGap (take n infos) (take n order) point at 0 → HasPoint point n codes infos (getD order at 0)
-  point-at order at cl il h g =
+  point-at order at cl il h small g =
       let k = getD order at 0 in
-      let s : k < n = omega (arith, g .0, getD-take n order at 0 h, length-take-le n infos il) in
+      let e : point + 0 ≡ point = omega arith in
+      let w = point-seen (take n infos) (take n order) at point small (g ∙ e) in
+      let s : k < n = omega (arith, w .0, getD-take n order at 0 h, length-take-le n infos il) in
       record {
         in-codes = λ t. omega arith;
         in-infos = λ t. omega arith;
-        its-point = λ t.
-            let e : point + 0 ≡ point = omega arith in
-            sym (taken-point n infos order at h s) ∙ g .1 ∙ e;
+        its-point = λ t. sym (taken-point n infos order at h s) ∙ w .1;
       }
 
   module _ (at : ℕ) (w : HasPoint point n codes infos at) (h : at < n) where

@@ -1,5 +1,6 @@
 -- How often a count can be halved.
 -- looks-half, looks-less      one look leaves half of the lines; what each loop's measure rests on
+-- looks-window                a first look and those in a window of at most n places are no more than looksFor n
 -- looks-bounded               THE BOUND
 use Prim.Native.Nat.{ℕ, zero, suc, _+_, _*_, _/_, _<_, _≤_}
 use native.Mathlib.Omega.{arith}
@@ -70,6 +71,9 @@ fewer : (m n : ℕ) → m ≤ n → looksFor m ≤ looksFor n
 fewer m n p =
     let e = within-same m n m (omega arith) p in
     omega (arith, e, within-fewer n m n p)
+
+pub looks-window : (n size : ℕ) → 0 < size → size ≤ n → looksFor (size / 2) + 1 ≤ looksFor n
+looks-window n size h p = omega (arith, looks-half size h, fewer size n p)
 
 pub looks-bounded : LooksBounded
 unfolding looksWithin

@@ -18,7 +18,7 @@ use Rattle.lists.proofs.Laws.{and-left, and-right}
 use Rattle.lists.proofs.Order.{prefix-le, prefix-no, prefix-yes, headIf}
 use Rattle.table.specs.Stored.{Stored, mk, pointIn, less, pointLess}
 use Rattle.table.specs.Memory.{storedList, storedAt}
-use Rattle.table.specs.loops.Search.{isAt, holdsAt, FirstAt, placeIn, pointPlaceIn, picked}
+use Rattle.table.specs.loops.Search.{isAt, holdsAt, FirstAt, placeIn, pointPlaceIn, picked, pointSeen}
 use Rattle.table.proofs.StoredLaws.{less-trans, point-trans}
 use Rattle.table.proofs.Entries.{length-entries, entries-step, entries-end, entries-at, drop-entries}
 use Rattle.lists.proofs.Nth.{Rising⇒Falls}
@@ -124,6 +124,11 @@ pub first-out : (f : Stored → Bool) (n : ℕ) (codes infos : List ℕ)
 first-out f n codes infos e =
     e ∙ sym (pick-no (holdsAt f n codes infos n) (some (storedAt codes infos n)) none
     (holds-out f n codes infos n (omega arith)))
+
+-- the code point at a place of the second order, through an index in range
+pub pointSeen-in : (infos order : List ℕ) (at : ℕ) → getD order at 0 < length infos
+    → pointSeen infos order at ≡ pointIn (getD infos (getD order at 0) 0)
+pointSeen-in infos order at h = rw (lt-ltb (getD order at 0) (length infos) h)
 
 -- the code point behind an index of the first n
 pub taken-point : (n : ℕ) (infos order : List ℕ) (at : ℕ) → at < n → getD order at 0 < n

@@ -5,14 +5,17 @@ ghost use mathlib.Core.Path.{_≡_};
 ghost use mathlib.Core.Bool.{true};
 ghost use mathlib.Core.List.{List, _++_, map};
 ghost use Prim.Native.Nat.{ℕ, _+_, _-_, _≤_, _<_};
-ghost use lib.ListN.{length, take, drop};
+ghost use lib.Dec.{ltb};
+ghost use lib.ListN.{length, take, drop, getD};
 ghost use Rattle.lists.specs.Order.{All, Rising, insert};
 ghost use Rattle.table.specs.Stored.{mk, bitsOf, infoOf, extraIn, orderKeyIn, less, pointLess};
 ghost use Rattle.table.specs.Limits.{limits};
-ghost use Rattle.table.specs.Memory.{storedList, orderOf};
+ghost use Rattle.table.specs.Memory.{storedList, storedAt, orderOf};
 ghost use Rattle.table.specs.loops.Search.{readsCode, writesPoint, isAt, holdsAt, FirstAt, placeIn, pointPlaceIn};
 ghost use Rattle.table.specs.loops.Search.{picked, readTaken, writeTaken, Ready, Kept};
 ghost use Rattle.table.specs.loops.Search.{storedKey, far, GapAt, CodeGap, PointGap, GapTells, HasPoint};
+ghost use Rattle.table.specs.loops.Search.{WindowOf, afterLook, pointSeen};
+ghost use Rattle.lists.specs.Pick.{if_then_else_, _and_};
 ghost use Rattle.lists.specs.Place.{shiftIn, bump};
 ghost use Rattle.table.specs.Valid.{storeOk};
 ghost use Rattle.lists.specs.Tests.{zeros};
@@ -86,10 +89,11 @@ fn stored_key(c: u32, i: u32) -> u64
     c as u64 * CODE + i as u64
 }
 
-// Where a search by halving ended: a place, and the gap, by how much the key of the line there (in `first_of_point` its
-// code point) is more than the one looked for; FAR if the place is behind the last line. Each turn looks at one line
-// and leaves half of the lines, rounded down, so at most `looksFor n` of n lines are looked at; the one that it ends at
-// is among them.
+// A search by halving keeps a window of places, one of which is sought: where it begins, and the gap, by how much the
+// key of the line at its last place (in `first_of_point` the code point) is more than the one sought. At the end one
+// place is left, and its gap; FAR if it is behind the last line. The first look leaves the largest power of two of
+// places, each look after it half of them, so at most `looksFor n` of n lines are looked at; the line that the search
+// ends at is among them.
 pub(crate) struct Spot {
     pub at: usize,
     pub gap: u64,
@@ -105,6 +109,40 @@ fn behind(n: usize) -> Spot
     Spot { at: n, gap: FAR }
 }
 
+// The largest power of two that is at most n.
+fn window(n: usize) -> usize
+    requires { ⌜ 0 < n ⌝ }
+    ensures { λ r. ⌜ WindowOf n r ⌝ }
+{
+    1 << (63 - usize::leading_zeros(n))
+}
+
+// The window after a look at a line: it begins at `next` if the line's key is less than the one sought, else it ends at
+// that line.
+fn looked(key: u64, sought: u64, spot: Spot, next: usize) -> Spot
+    ensures { λ r. ⌜ r ≡ afterLook key sought spot next ⌝ }
+{
+    if key < sought {
+        return Spot {
+            at: next,
+            gap: spot.gap,
+        };
+    }
+    Spot {
+        at: spot.at,
+        gap: key - sought,
+    }
+}
+
+// The key of the line at a place.
+fn key_at(codes: &[u32], infos: &[u32], at: usize) -> u64
+    requires { ⌜ (at < length (now codes)) × (length (now codes) ≡ length (now infos)) ⌝ }
+    ensures { λ r. ⌜ (r ≡ storedKey (storedAt (now (codes .entry)) (now (infos .entry)) at))
+        × (getD (now (infos .entry)) at 0 < 4294967296) ⌝ }
+{
+    stored_key(codes[at], infos[at])
+}
+
 // The place of the first stored mapping that is not less than (c, i), or their count, if they rise.
 fn place(codes: &[u32], infos: &[u32], c: u32, i: u32) -> Spot
     requires { ⌜ length (now codes) ≡ length (now infos) ⌝ }
@@ -114,25 +152,63 @@ fn place(codes: &[u32], infos: &[u32], c: u32, i: u32) -> Spot
         (length (now (codes .entry))) (r .at) (r .gap)
         × (Rising less all → r .at ≡ placeIn (mk c i) all)) ⌝ }
 {
-    let sought = stored_key(c, i);
-    let mut base: usize = 0;
-    let mut size: usize = codes.len();
-    let mut gap = FAR;
-    while 0 < size {
-        let half = size / 2;
-        let mid = base + half;
-        let key = stored_key(codes[mid], infos[mid]);
-        if key < sought {
-            base = mid + size % 2;
-        } else {
-            gap = key - sought;
-        }
-        size = half;
+    let n = codes.len();
+    if n == 0 {
+        return behind(0);
     }
-    Spot { at: base, gap: gap }
+    let sought = stored_key(c, i);
+    let mut size = window(n);
+    let last = size - 1;
+    let all = Spot { at: 0, gap: FAR };
+    let mut spot = looked(key_at(codes, infos, last), sought, all, n - last);
+    while 1 < size {
+        size = size / 2;
+        let next = spot.at + size;
+        spot = looked(key_at(codes, infos, next - 1), sought, spot, next);
+    }
+    spot
 }
 
-// The same place in the second order, without the gap; an index out of range ends the search.
+// The same place, for a new line: a table's lines often come in order, and behind the last one it needs no search.
+fn place_new(codes: &[u32], infos: &[u32], c: u32, i: u32) -> usize
+    requires { ⌜ length (now codes) ≡ length (now infos) ⌝ }
+    ensures { λ r. ⌜ (let all = storedList (now (codes .entry)) (now (infos .entry)) in
+        (r ≤ length (now (codes .entry))) × (Rising less all → r ≡ placeIn (mk c i) all)) ⌝ }
+{
+    let n = codes.len();
+    if n == 0 {
+        return 0;
+    }
+    let last = n - 1;
+    if stored_less(codes[last], infos[last], c, i) {
+        return n;
+    }
+    let spot = place(codes, infos, c, i);
+    spot.at
+}
+
+// Whether the line at a place of the second order comes before (c, i); not where its index is out of range.
+fn before_at(codes: &[u32], infos: &[u32], order: &[u32], at: usize, c: u32, i: u32) -> bool
+    requires { ⌜ (at < length (now order)) × (length (now codes) ≡ length (now infos)) ⌝ }
+    ensures { λ r. ⌜ (let k = getD (now (order .entry)) at 0 in
+        r ≡ (ltb k (length (now (codes .entry)))
+        and pointLess (storedAt (now (codes .entry)) (now (infos .entry)) k) (mk c i))) ⌝ }
+{
+    let k = order[at] as usize;
+    if k < codes.len() {
+        return point_less(codes[k], infos[k], c, i);
+    }
+    false
+}
+
+// Where a window begins after a look at a line.
+fn moved(before: bool, base: usize, next: usize) -> usize
+    ensures { λ r. ⌜ r ≡ (if before then next else base) ⌝ }
+{
+    if before { next } else { base }
+}
+
+// The place of a new line in the second order.
 fn place_point(codes: &[u32], infos: &[u32], order: &[u32], c: u32, i: u32) -> usize
     requires { ⌜ length (now codes) ≡ length (now infos) ⌝ }
     ensures { λ r. ⌜ (let all = picked (now (codes .entry)) (now (infos .entry)) (now (order .entry)) in
@@ -140,26 +216,38 @@ fn place_point(codes: &[u32], infos: &[u32], order: &[u32], c: u32, i: u32) -> u
         × (All (λ k. k < length (now (codes .entry))) (now (order .entry))
         → Rising pointLess all → r ≡ pointPlaceIn (mk c i) all)) ⌝ }
 {
-    let mut base: usize = 0;
-    let mut size: usize = order.len();
-    while 0 < size {
-        let half = size / 2;
-        let mid = base + half;
-        let k = order[mid] as usize;
-        if codes.len() <= k {
-            return base;
-        }
-        if point_less(codes[k], infos[k], c, i) {
-            base = mid + size % 2;
-        }
-        size = half;
+    let n = order.len();
+    if n == 0 {
+        return 0;
+    }
+    if before_at(codes, infos, order, n - 1, c, i) {
+        return n;
+    }
+    let mut size = window(n);
+    let last = size - 1;
+    let mut base = moved(before_at(codes, infos, order, last, c, i), 0, n - last);
+    while 1 < size {
+        size = size / 2;
+        let next = base + size;
+        base = moved(before_at(codes, infos, order, next - 1, c, i), base, next);
     }
     base
 }
 
+// The code point of the line at a place of the second order; RANK, more than any, where its index is out of range.
+fn point_at(infos: &[u32], order: &[u32], at: usize) -> u64
+    requires { ⌜ at < length (now order) ⌝ }
+    ensures { λ r. ⌜ r ≡ pointSeen (now (infos .entry)) (now (order .entry)) at ⌝ }
+{
+    let k = order[at] as usize;
+    if k < infos.len() {
+        return (infos[k] % RANK) as u64;
+    }
+    RANK as u64
+}
+
 // The place in the second order of the first mapping whose code point is not less, or the count of mappings, if they
-// rise; where an index out of range is met, the count. Lines that write stand first, so a code point's first line says
-// what becomes of it, if any does.
+// rise. Lines that write stand first, so a code point's first line says what becomes of it, if any does.
 fn first_of_point(infos: &[u32], order: &[u32], point: u32) -> Spot
     requires { ⌜ point < 2097152 ⌝ }
     ensures { λ r. ⌜ (r .at ≤ length (now (order .entry)))
@@ -169,25 +257,21 @@ fn first_of_point(infos: &[u32], order: &[u32], point: u32) -> Spot
         → Rising pointLess (picked codes (now (infos .entry)) (now (order .entry)))
         → r .at ≡ pointPlaceIn (mk 0 point) (picked codes (now (infos .entry)) (now (order .entry)))) ⌝ }
 {
-    let mut base: usize = 0;
-    let mut size: usize = order.len();
-    let mut gap = FAR;
-    while 0 < size {
-        let half = size / 2;
-        let mid = base + half;
-        let k = order[mid] as usize;
-        if infos.len() <= k {
-            return behind(order.len());
-        }
-        let here = infos[k] % RANK;
-        if here < point {
-            base = mid + size % 2;
-        } else {
-            gap = (here - point) as u64;
-        }
-        size = half;
+    let n = order.len();
+    if n == 0 {
+        return behind(0);
     }
-    Spot { at: base, gap: gap }
+    let sought = point as u64;
+    let mut size = window(n);
+    let last = size - 1;
+    let all = Spot { at: 0, gap: FAR };
+    let mut spot = looked(point_at(infos, order, last), sought, all, n - last);
+    while 1 < size {
+        size = size / 2;
+        let next = spot.at + size;
+        spot = looked(point_at(infos, order, next - 1), sought, spot, next);
+    }
+    spot
 }
 
 // Whether a stored line reads a code. Length and rank are one test: divided by 2 RANKs, the second number is 4 for each
@@ -404,8 +488,7 @@ pub(crate) fn insert_stored(
         × (now (order .exit) ≡ orderOf all ++ drop (n + 1) (now (order .entry)))) ⌝ }
 {
     let m = n as usize;
-    let spot = place(&codes[..m], &infos[..m], c, i);
-    let at = spot.at;
+    let at = place_new(&codes[..m], &infos[..m], c, i);
     let pos = place_point(&codes[..m], &infos[..m], &order[..m], c, i);
     renumber(order, m, at);
     shift_in(order, m, pos, at as u32);

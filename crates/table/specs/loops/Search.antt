@@ -1,5 +1,5 @@
 -- Looking up and inserting, over stored mappings.
-use Prim.Native.Nat.{ℕ, _+_, _-_, _*_, _<_, _≤_}
+use Prim.Native.Nat.{ℕ, _+_, _-_, _*_, _^_, _<_, _≤_}
 use mathlib.Core.Bool.{Bool, false}
 use mathlib.Core.Path.{_≡_}
 use mathlib.Core.Option.{none, some}
@@ -12,6 +12,7 @@ use Rattle.table.specs.Stored.{Stored, mk, pointIn, extraIn, storedIsRea
 use Rattle.table.specs.Stored.{less, pointLess, readClash}
 use Rattle.table.specs.Stored.{writeClash}
 use Rattle.table.specs.Memory.{storedList, storedAt, orderOf, SlicesHold}
+use Rattle.table.specs.declared.store.Spot.{Spot}
 use Rattle.lists.specs.Tests.{anyOf}
 
 -- a stored mapping that reads a code of len bytes
@@ -44,18 +45,25 @@ storedKey e = e .bits * 4294967296 + e .info
 abbrev pub far : ℕ
 far = 4194304
 
+-- the line at the place has the key looked for plus the gap
+abbrev pub KeyGap : (ℕ → ℕ) → ℕ → ℕ → ℕ → Type 0
+KeyGap key sought at gap = key at ≡ sought + gap
+
 -- of n lines, the one at the place has the gap; behind the last the gap is `far`
 abbrev pub GapAt : (ℕ → ℕ → Type 0) → ℕ → ℕ → ℕ → Type 0
 GapAt Has n at gap = (at < n → Has at gap) × (n ≤ at → gap ≡ far)
 
--- the line at the place has the key looked for plus the gap
 abbrev pub CodeGap : List ℕ → List ℕ → Stored → ℕ → ℕ → Type 0
-CodeGap codes infos e at gap = storedKey (storedAt codes infos at) ≡ storedKey e + gap
+CodeGap codes infos e = KeyGap (λ at. storedKey (storedAt codes infos at)) (storedKey e)
 
--- the index at the place is in range, and its line has the code point plus the gap
+-- the code point of the line at a place of the second order; 2^21, more than any, where the index is out of range
+abbrev pub pointSeen : List ℕ → List ℕ → ℕ → ℕ
+pointSeen infos order at =
+    let k = getD order at 0 in
+    if ltb k (length infos) then pointIn (getD infos k 0) else 2097152
+
 abbrev pub PointGap : List ℕ → List ℕ → ℕ → ℕ → ℕ → Type 0
-PointGap infos order point at gap =
-    (getD order at 0 < length infos) × (pointIn (getD infos (getD order at 0) 0) ≡ point + gap)
+PointGap infos order point = KeyGap (pointSeen infos order) point
 
 -- the line at the place reads the code if and only if the gap is less than `far`; the gap is then its rank and code
 -- point, and the code has 1 to 4 bytes
@@ -69,6 +77,19 @@ pub record HasPoint (point n : ℕ) (codes infos : List ℕ) (at : ℕ) : Type 0
   pub in-codes : at < n → at < length codes
   pub in-infos : at < n → at < length infos
   pub its-point : at < n → pointIn (getD infos at 0) ≡ point
+
+-- a power of two
+abbrev pub Power : ℕ → Type 0
+Power size = (j : ℕ) × (size ≡ 2 ^ j)
+
+-- the largest power of two that is at most n
+abbrev pub WindowOf : ℕ → ℕ → Type 0
+WindowOf n size = Power size × (size ≤ n) × (n < size * 2)
+
+-- after a look at a line with a key: the window begins at `next`, or ends at that line
+abbrev pub afterLook : ℕ → ℕ → Spot → ℕ → Spot
+afterLook key sought s next =
+    if ltb key sought then record { at = next; gap = s .gap } else record { at = s .at; gap = key - sought }
 
 -- where a stored mapping belongs in either order
 abbrev pub placeIn : Stored → List Stored → ℕ

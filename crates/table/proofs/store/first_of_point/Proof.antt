@@ -1,104 +1,104 @@
--- Invariant: the gap is that of the line behind the places left, and if the indices are in range and the lines rise, the place is among
--- these. Measure: the looks left.
+-- Invariant: the place is in the window, if the indices are in range and the lines rise, and the gap is that of its last
+-- line. Measure: the looks left.
 use Rattle.table.proofs.Looks.{looks-less}
-use Rattle.table.proofs.Halving.{Among, among-yes, among-no, among-one, Halving, halving-starts, halved-yes, halved-no, halved-at, below-point, not-below-point}
-use Rattle.table.proofs.Places.{point-le, point-yes, point-no}
-use Rattle.lists.proofs.Order.{All-getD⁻}
-use Rattle.lists.specs.Order.{Rising, All}
+use Rattle.table.proofs.Halving.{LooksLeft, left-first, left-half, power-one, first-look, half-look, Window, window-starts, window-look, window-ends, PointSought, point-within, point-sides}
+use Rattle.table.proofs.Places.{point-le}
 use Rattle.table.specs.Looks.{looksFor}
-use Rattle.table.specs.loops.Search.{pointPlaceIn, picked, PointGap}
-use Rattle.table.specs.Memory.{storedAt}
-use Rattle.table.specs.Stored.{mk, pointLess}
-use mathlib.Core.List.{List}
-use Prim.Native.Nat.{ℕ, _+_, _/_, _<_}
+use Rattle.table.specs.Stored.{mk}
+use Rattle.table.specs.loops.Search.{pointSeen}
+use mathlib.Core.Path.{refl}
+use Prim.Native.Nat.{_+_, _-_, _/_}
 use native.Mathlib.Omega.{arith}
-use lib.ListN.{length, getD}
+use lib.ListN.{length}
 use borrow.Author.Needs.{needs}
 use Rattle.table.proofs.store.first_of_point.Statement.{statement}
 use Rattle.table.proofs.store.first_of_point.Tie as tie
 
 abbrev Inv-loop : tie.InvT-loop
-Inv-loop infos order point base₀ size₀ gap₀ base size gap =
-    Halving (PointGap infos order point) (length order) base size gap
-    × ((codes : List ℕ) → All (λ k. k < length infos) order → Rising pointLess (picked codes infos order)
-    → Among base size (pointPlaceIn (mk 0 point) (picked codes infos order)))
+Inv-loop infos order point n sought size₀ last spot₀ size spot =
+    LooksLeft (length order) size
+    × Window (pointSeen infos order) point (length order) (PointSought infos order point) (spot .at) size (spot .gap)
 
 abbrev μ-loop : tie.MeasureT-loop
-μ-loop infos order point base₀ size₀ gap₀ base size gap = looksFor size
-
-abbrev entry : tie.At-loop Inv-loop μ-loop → tie.Start Inv-loop μ-loop
-entry c = c .before .before .before
-
-abbrev turn : tie.After-shared-slice-known4 Inv-loop μ-loop → tie.At-loop Inv-loop μ-loop
-turn c = c .before .before .before .before
-
-loop-holds : tie.Need-loop-holds Inv-loop μ-loop
-loop-holds c =
-    let a = c .before .before .args in (
-      halving-starts,
-      λ codes q r. (omega arith, omega (arith, point-le codes (a .infos .now) (a .order .now) (mk 0 (a .point)))),
-    )
-
-add-mid : tie.Need-add-mid Inv-loop μ-loop
-add-mid c = omega (arith, c .before .loop .inv .0 .inside)
-
-cast-k : tie.Need-cast-k Inv-loop μ-loop
-cast-k c =
-    let l = c .before .before .loop in
-    omega (arith, c .shared-slice-known3 .given (l .base + l .size / 2))
+μ-loop infos order point n sought size₀ last spot₀ size spot = looksFor (size / 2)
 
 returns : tie.Need-returns Inv-loop μ-loop
 returns c =
-    let a = entry (c .before .before .before .before) .args in
-    let l = c .before .before .before .before .loop in (
+    let a = c .before .before .before .before .args in (
       omega (arith, c .behind .ensures .0),
-      ((λ h. absurd (omega (arith, c .behind .ensures .0))), λ h. c .behind .ensures .1),
-      λ codes q r.
-          let h = All-getD⁻ (λ k. k < length (a .infos .now)) (a .order .now) (l .base + l .size / 2) 0 q (omega (arith, l .inv .0 .inside)) in
-          absurd (omega (arith, c .before .if1 .taken, h)),
+      ((λ h. absurd (omega arith)), λ h. c .behind .ensures .1),
+      λ codes q r. omega (arith, c .behind .ensures .0, point-le codes (a .infos .now) (a .order .now) (mk 0 (a .point))),
     )
 
+sub-last : tie.Need-sub-last Inv-loop μ-loop
+sub-last c = omega (arith, c .window .ensures .2)
+
+point-at-requires : tie.Need-point-at-requires Inv-loop μ-loop
+point-at-requires c κs = omega (arith, c .window .ensures .1, c .window .ensures .2)
+
+sub-looked : tie.Need-sub-looked Inv-loop μ-loop
+sub-looked c = omega (arith, c .before .window .ensures .1)
+
+loop-holds : tie.Need-loop-holds Inv-loop μ-loop
+loop-holds c =
+    let s = c .before .before .before .before .before .before in
+    let a = s .args in
+    let n = length (a .order .now) in
+    let v = c .before .before .window in
+    let size = v .result in (
+      left-first n size (v .ensures),
+      window-look (pointSeen (a .infos .now) (a .order .now)) (a .point) n (PointSought (a .infos .now) (a .order .now) (a .point))
+          _ (c .looked .result) _ _ (n + 1) (size - 1) (n - (size - 1)) size
+          (c .before .point-at .ensures) refl (c .looked .ensures) (first-look n size (v .ensures))
+          (omega (arith, v .ensures .1, v .ensures .2))
+          (point-sides (a .infos .now) (a .order .now) (a .point) (s .pre) (size - 1) (omega (arith, v .ensures .1, v .ensures .2)))
+          (window-starts _ _ n _ (point-within (a .infos .now) (a .order .now) (a .point) (s .pre))),
+    )
+
+-- the turn's own loop, at its test
+abbrev turn : tie.After-looked2 Inv-loop μ-loop → tie.At-loop Inv-loop μ-loop
+turn c = c .before .before .before .before
+
+add-next : tie.Need-add-next Inv-loop μ-loop
+add-next c = omega (arith, c .before .before .loop .inv .1 .inside)
+
+sub-point-at : tie.Need-sub-point-at Inv-loop μ-loop
+sub-point-at c = omega arith
+
+point-at-requires-2 : tie.Need-point-at-requires-2 Inv-loop μ-loop
+point-at-requires-2 c κs = omega (arith, c .before .before .loop .inv .1 .inside)
+
 loop-less : tie.Need-loop-less Inv-loop μ-loop
-loop-less c = looks-less (turn (c .before) .loop .size) (omega arith)
+loop-less c = looks-less (turn c .loop .size / 2) (omega arith)
 
 loop-again : tie.Need-loop-again Inv-loop μ-loop
 loop-again c =
-    let s = entry (turn (c .before)) in
+    let s = c .before .before .before .before .before .before .before .before .before .before .before in
     let a = s .args in
-    let l = turn (c .before) .loop in
-    let m = l .base + l .size / 2 in (
-      halved-yes (l .inv .0),
-      λ codes q r. among-yes (l .base) (l .size) _ (l .inv .1 codes q r)
-          (point-yes codes (a .infos .now) (a .order .now) (mk 0 (a .point)) r m (omega (arith, l .inv .0 .inside))
-          (below-point (storedAt codes (a .infos .now) (getD (a .order .now) m 0)) (a .point) (s .pre) (c .if2 .taken))),
-    )
-
-loop-less-2 : tie.Need-loop-less-2 Inv-loop μ-loop
-loop-less-2 c = looks-less (turn (c .before) .loop .size) (omega arith)
-
-loop-again-2 : tie.Need-loop-again-2 Inv-loop μ-loop
-loop-again-2 c =
-    let s = entry (turn (c .before)) in
-    let a = s .args in
-    let l = turn (c .before) .loop in
-    let m = l .base + l .size / 2 in (
-      halved-no (l .inv .0) _ (omega arith) (omega (arith, c .before .before .if1 .left), omega (arith, c .if2 .left)),
-      λ codes q r. among-no (l .base) (l .size) _ (l .inv .1 codes q r)
-          (point-no codes (a .infos .now) (a .order .now) (mk 0 (a .point)) m (omega (arith, l .inv .0 .inside))
-          (not-below-point (storedAt codes (a .infos .now) (getD (a .order .now) m 0)) (a .point) (s .pre) (omega (arith, c .if2 .left)))),
+    let n = length (a .order .now) in
+    let l = turn c .loop in
+    let at = l .spot .at + l .size / 2 - 1 in (
+      left-half _ (l .size) (omega arith) (l .inv .0),
+      window-look (pointSeen (a .infos .now) (a .order .now)) (a .point) n (PointSought (a .infos .now) (a .order .now) (a .point))
+          (l .spot) (c .looked2 .result) _ _ (l .size) at (l .spot .at + l .size / 2) (l .size / 2)
+          (c .before .point-at2 .ensures) refl (c .looked2 .ensures) (half-look (l .spot .at) (l .size) (l .inv .0 .power) (omega arith))
+          (omega (arith, l .inv .1 .inside))
+          (point-sides (a .infos .now) (a .order .now) (a .point) (s .pre) at (omega (arith, l .inv .1 .inside)))
+          (l .inv .1),
     )
 
 returns-2 : tie.Need-returns-2 Inv-loop μ-loop
 returns-2 c =
-    let l = c .before .loop in (
-      omega (arith, l .inv .0 .inside),
-      halved-at (l .inv .0) (omega arith),
-      λ codes q r. among-one (l .base) (l .size) _ (omega arith) (l .inv .1 codes q r),
+    let l = c .before .loop in
+    let w = window-ends _ _ _ _ (l .spot .at) (l .size) (l .spot .gap) (power-one (l .size) (l .inv .0 .power) (omega arith)) (l .inv .1) in (
+      w .0,
+      w .1,
+      λ codes q r. w .2 _ (record { codes = codes; inside = q; rises = r; is = refl }),
     )
 
 pub first-of-point-spec : {M : Type 1} → statement M
 first-of-point-spec =
     tie.close
-    (tie.spec Inv-loop μ-loop loop-holds add-mid (λ c. search needs) (λ c. search needs) cast-k (λ c κs. search needs)
-    returns (λ c. search needs) (λ c. search needs) (λ c. search needs) (λ c. search needs) loop-less loop-again loop-less-2
-    loop-again-2 returns-2)
+    (tie.spec Inv-loop μ-loop (λ c κs. search needs) returns (λ c κs. search needs) sub-last point-at-requires
+    sub-looked (λ c κs. search needs) loop-holds add-next sub-point-at point-at-requires-2 (λ c κs. search needs)
+    loop-less loop-again returns-2)

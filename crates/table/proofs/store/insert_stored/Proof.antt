@@ -7,7 +7,7 @@ use borrow.Author.Needs.{needs}
 use Rattle.table.proofs.store.insert_stored.Statement.{statement}
 use Rattle.table.proofs.store.insert_stored.Tie as tie
 
-abbrev entry : tie.After-place-arg → tie.Start
+abbrev entry : tie.After-place-new-arg → tie.Start
 entry c = c .before .before .before .before
 
 abbrev entry-2 : tie.After-place-point-arg → tie.Start
@@ -19,7 +19,7 @@ after-place-point c = c .before .before .before .before .before
 abbrev entry-3 : tie.After-shift-in-arg → tie.Start
 entry-3 c = entry-2 (after-place-point c .before .before .before)
 
-abbrev after-place : tie.After-shift-in-arg → tie.After-place
+abbrev after-place : tie.After-shift-in-arg → tie.After-place-new
 after-place c = after-place-point c .before .before .before .before
 
 abbrev after-shift-in-arg : tie.After-shift-in-arg2 → tie.After-shift-in-arg
@@ -31,13 +31,13 @@ after-shift-in c = c .before .before .before .before .before .before .before
 abbrev after-shift-in-2 : tie.After-slice-known7 → tie.After-shift-in
 after-shift-in-2 c = after-shift-in (c .before .before .before)
 
-slice-aggregate-place : tie.Need-slice-aggregate-place
+slice-aggregate-place : tie.Need-slice-aggregate-place-new
 slice-aggregate-place c = let a = entry c .args in sym (length-take-le (a .n) (a .codes .now) (omega (arith, entry c .pre .codes-room)))
 
-slice-aggregate-place-2 : tie.Need-slice-aggregate-place-2
+slice-aggregate-place-2 : tie.Need-slice-aggregate-place-new-2
 slice-aggregate-place-2 c = let a = entry (c .before) .args in sym (length-take-le (a .n) (a .infos .now) (omega (arith, entry (c .before) .pre .infos-room)))
 
-place-requires : tie.Need-place-requires
+place-requires : tie.Need-place-new-requires
 place-requires c κs =
     let a = entry (c .before) .args in
     place-needs (a .n) (a .codes .now) (a .infos .now) (a .order .now) (mk (a .c) (a .i)) (entry (c .before) .pre) .0
@@ -73,7 +73,7 @@ cast-shift-in c =
     let a = entry-3 c .args in
     let u = length-take-le (a .n) (a .codes .now) (omega (arith, entry-3 c .pre .codes-room)) in
     let v = length-take-le (a .n) (a .order .now) (omega (arith, entry-3 c .pre .order-room)) in
-    omega (arith, after-place c .place .ensures .0)
+    omega (arith, after-place c .place-new .ensures .0)
 
 shift-in-requires : tie.Need-shift-in-requires
 shift-in-requires c κs =
@@ -87,7 +87,7 @@ shift-in-requires-2 c κs =
     let a = entry-3 (after-shift-in-arg c) .args in
     let u = length-take-le (a .n) (a .codes .now) (omega (arith, entry-3 (after-shift-in-arg c) .pre .codes-room)) in
     let v = length-take-le (a .n) (a .order .now) (omega (arith, entry-3 (after-shift-in-arg c) .pre .order-room)) in (
-      omega (arith, after-place (after-shift-in-arg c) .place .ensures .0),
+      omega (arith, after-place (after-shift-in-arg c) .place-new .ensures .0),
       omega (arith, entry-3 (after-shift-in-arg c) .pre .codes-room),
     )
 
@@ -98,7 +98,7 @@ shift-in-requires-3 c κs =
     (omega (arith, entry-3 (after-shift-in c .before) .pre .codes-room)) in
     let v = length-take-le (a .n) (a .order .now)
     (omega (arith, entry-3 (after-shift-in c .before) .pre .order-room)) in (
-      omega (arith, after-place (after-shift-in c .before) .place .ensures .0),
+      omega (arith, after-place (after-shift-in c .before) .place-new .ensures .0),
       omega (arith, entry-3 (after-shift-in c .before) .pre .infos-room),
     )
 
@@ -109,23 +109,23 @@ returns c =
     (omega (arith, entry-3 (after-shift-in-2 c .before) .pre .codes-room)) in
     let v = length-take-le (a .n) (a .order .now)
     (omega (arith, entry-3 (after-shift-in-2 c .before) .pre .order-room)) in
-    let p = after-place (after-shift-in-2 c .before) .place in
+    let p = after-place (after-shift-in-2 c .before) .place-new in
     let z = after-place-point (after-shift-in-2 c .before) .place-point in
     let pn = place-needs (a .n) (a .codes .now) (a .infos .now) (a .order .now) (mk (a .c) (a .i))
     (entry-3 (after-shift-in-2 c .before) .pre) in
     let zn = point-needs (a .n) (a .codes .now) (a .infos .now) (a .order .now) (mk (a .c) (a .i))
     (entry-3 (after-shift-in-2 c .before) .pre) in
-    let pe = p .ensures .2 (pn .1) in
+    let pe = p .ensures .1 (pn .1) in
     let ze = z .ensures .1 (zn .1) (zn .2) in (
       c .before .before .before .before .before .before .shift-in2 .ensures
           ∙ codes-done (a .n) (a .codes .now) (a .infos .now) (a .order .now) (mk (a .c) (a .i))
-          (entry-3 (after-shift-in-2 c .before) .pre) (p .result .at) (omega (arith, p .ensures .0)) pe,
+          (entry-3 (after-shift-in-2 c .before) .pre) (p .result) (omega (arith, p .ensures .0)) pe,
       c .before .before .shift-in3 .ensures
           ∙ infos-done (a .n) (a .codes .now) (a .infos .now) (a .order .now) (mk (a .c) (a .i))
-          (entry-3 (after-shift-in-2 c .before) .pre) (p .result .at) (omega (arith, p .ensures .0)) pe,
+          (entry-3 (after-shift-in-2 c .before) .pre) (p .result) (omega (arith, p .ensures .0)) pe,
       after-shift-in-2 c .shift-in .ensures
           ∙ order-done (a .n) (a .codes .now) (a .infos .now) (a .order .now) (mk (a .c) (a .i))
-          (entry-3 (after-shift-in-2 c .before) .pre) (p .result .at) (z .result) _ (omega (arith, z .ensures .0)) pe ze
+          (entry-3 (after-shift-in-2 c .before) .pre) (p .result) (z .result) _ (omega (arith, z .ensures .0)) pe ze
           (after-shift-in-2 c .before .before .before .before .renumber .ensures),
     )
 

@@ -126,7 +126,7 @@ returns-6 c =
     let at = p .first-of-point .result .at in
     let h = at-inside p (c .before .if5 .left) in (
       λ limit ok. point-first limit (a .n) (a .codes .now) (a .infos .now) (a .order .now) ok (a .point) at (first-is p limit ok) h,
-      point-at (a .point) (a .n) (a .codes .now) (a .infos .now) (a .order .now) at (omega arith) (omega arith) h
+      point-at (a .point) (a .n) (a .codes .now) (a .infos .now) (a .order .now) at (omega arith) (omega arith) h (omega arith)
           (subst (λ (g : ℕ). PointGap (take (a .n) (a .infos .now)) (take (a .n) (a .order .now)) (a .point) at g) (c .before .if5 .left) (ended p .0 h)),
     )
 
