@@ -80,10 +80,22 @@ extern "C" {
 
 /* A conversion ends before all is read, at the first sequence for which one holds; of several at one
  * place the order is 51, 52, 53, 50. Only the mark that OBOEPOND_UTF32 writes goes before the first
- * sequence: 50 where it does not fit, whatever the input. */
-#define OBOEPOND_FULL 50       /* what the sequence gives, or the mark, does not fit into the output */
+ * sequence: 50 where it does not fit, whatever the input.
+ *
+ * With 52 the result has the length of the illegal sequence in bytes. Of the table's bytes it runs up
+ * to and including the byte that broke it; but where that byte is not its first and could begin a
+ * sequence (it is not illegal in row 0), it ends before that byte. So 81 2D 33, where 81 2D is no code
+ * but 2D is, has an illegal sequence of length 1, the stray 81, and goes on with 2D 33. In UTF-8 the
+ * length is 1, each illegal byte being a sequence of its own; in UTF-32 it is 4.
+ * To go on after a 52, skip that many bytes behind those read and call again with the rest; or set
+ * `skip`. With skip other than 0 a conversion passes over an illegal sequence by its length, writes
+ * U+FFFD for it, or subchar towards the table's bytes, and goes on: there is no 52 then, but 50 where
+ * that does not fit. Input that ends inside a sequence is 51 all the same.
+ * What no rule can mend: where a stray byte and the byte behind it form a legal code (81 81 in
+ * Shift-JIS), they are read as that code, and the bytes behind them are read one off. */
+#define OBOEPOND_FULL 50       /* what is written for the sequence, or the mark, does not fit into the output */
 #define OBOEPOND_CUT_SHORT 51  /* the input ends inside a sequence */
-#define OBOEPOND_ILLEGAL 52    /* the sequence is illegal */
+#define OBOEPOND_ILLEGAL 52    /* the sequence is illegal, and skipping is off */
 #define OBOEPOND_UNASSIGNED 53 /* the sequence is unassigned, and substituting is off */
 
 /* Record and memory are not what an accepted text leaves. */
@@ -119,11 +131,14 @@ uint32_t oboepond_check(const uint32_t *record, size_t record_len,
 
 /*
  * From the table's bytes to UTF-8. substitute 0 is strict; with anything else an unassigned code gives
- * U+001A where it has one byte and the table has a subchar1, else U+FFFD.
- * Answers 0, 50 to 53 or 60; 70 where record has fewer than 7 numbers or result fewer than 2.
- * result: bytes read, bytes written. Reading stops before the sequence that the number is about, and
- * what was written before it stands; output bytes past the written count keep their values.
- * With 60 nothing is read or written: result is 0, 0.
+ * U+001A where it has one byte and the table has a subchar1, else U+FFFD. skip 0 stops at an illegal
+ * sequence; with anything else it is passed over, and U+FFFD is written for it, never U+001A, in the
+ * strict setting too.
+ * Answers 0, 50 to 53 or 60; 70 where record has fewer than 7 numbers or result fewer than 3.
+ * result: bytes read, bytes written, and with 52 the length of the illegal sequence, else 0. Reading
+ * stops before the sequence that the number is about, and what was written before it stands; output
+ * bytes past the written count keep their values. After a 52 the rest begins at bytes read + length.
+ * With 60 nothing is read or written: result is 0, 0, 0.
  * An output of four bytes for each byte of input is always enough.
  */
 uint32_t oboepond_to_utf8(const uint32_t *record, size_t record_len,
@@ -133,13 +148,15 @@ uint32_t oboepond_to_utf8(const uint32_t *record, size_t record_len,
                           const uint32_t *order, size_t order_len,
                           const uint8_t *input, size_t input_len,
                           uint8_t *output, size_t output_len,
-                          uint32_t substitute,
+                          uint32_t substitute, uint32_t skip,
                           uint64_t *result, size_t result_len);
 
 /*
  * From UTF-8 to the table's bytes. With fallback other than 0 the |1 lines write too. substitute 0 is
  * strict; with anything else an unassigned code point gives subchar1 where a |2 line names it, else
- * subchar. Numbers, result and output as for oboepond_to_utf8.
+ * subchar. skip 0 stops at an illegal byte; with anything else it is passed over, and subchar is
+ * written for it, never subchar1, in the strict setting too: two for C0 AD, three for ED A0 80.
+ * Numbers, result and output as for oboepond_to_utf8.
  */
 uint32_t oboepond_from_utf8(const uint32_t *record, size_t record_len,
                             const uint16_t *states, size_t states_len,
@@ -148,18 +165,18 @@ uint32_t oboepond_from_utf8(const uint32_t *record, size_t record_len,
                             const uint32_t *order, size_t order_len,
                             const uint8_t *input, size_t input_len,
                             uint8_t *output, size_t output_len,
-                            uint32_t fallback, uint32_t substitute,
+                            uint32_t fallback, uint32_t substitute, uint32_t skip,
                             uint64_t *result, size_t result_len);
 
 /*
  * From the table's bytes to Unicode text in a scheme; with OBOEPOND_UTF8 this is oboepond_to_utf8.
  * With OBOEPOND_UTF32 the mark is written before any byte of the input is looked at, for an empty input
- * too; where the output has fewer than four bytes, the answer is 50 (only 60 goes before) and result is 0, 0. The bytes
- * written include the mark.
+ * too; where the output has fewer than four bytes, the answer is 50 (only 60 goes before) and result is
+ * 0, 0, 0. The bytes written include the mark.
  * Answers 0, 50 to 53 or 60; 70 as for oboepond_to_utf8, 71 where scheme is none of the four.
- * substitute, result and output as for oboepond_to_utf8. An output of four bytes for each byte of input
- * is always enough; OBOEPOND_UTF32 needs four more for the mark. After a 50 with the mark written, go on
- * with OBOEPOND_UTF32BE, so that no second mark is written.
+ * substitute, skip, result and output as for oboepond_to_utf8. An output of four bytes for each byte of
+ * input is always enough; OBOEPOND_UTF32 needs four more for the mark. After a 50 or 52 with the mark
+ * written, go on with OBOEPOND_UTF32BE, so that no second mark is written.
  */
 uint32_t oboepond_to_unicode(const uint32_t *record, size_t record_len,
                              const uint16_t *states, size_t states_len,
@@ -168,17 +185,18 @@ uint32_t oboepond_to_unicode(const uint32_t *record, size_t record_len,
                              const uint32_t *order, size_t order_len,
                              const uint8_t *input, size_t input_len,
                              uint8_t *output, size_t output_len,
-                             uint32_t scheme, uint32_t substitute,
+                             uint32_t scheme, uint32_t substitute, uint32_t skip,
                              uint64_t *result, size_t result_len);
 
 /*
  * From Unicode text in a scheme to the table's bytes; with OBOEPOND_UTF8 this is oboepond_from_utf8.
  * With OBOEPOND_UTF32 a mark at the front gives no output, and its four bytes count as read: 4 with the
  * mark alone, and 4 where the first character behind it stops the conversion. A second mark is text.
- * A mark is looked for at the front of each call's input: once a call has read four bytes or more, go
- * on with OBOEPOND_UTF32LE if the text began FF FE 00 00, else with OBOEPOND_UTF32BE, mark or no mark.
- * Answers 0, 50 to 53 or 60; 70 and 71 as for oboepond_to_unicode. fallback, substitute, result and
- * output as for oboepond_from_utf8.
+ * A mark is looked for at the front of each call's input: once a call has read four bytes or more, or
+ * an illegal sequence was passed over, go on with OBOEPOND_UTF32LE if the text began FF FE 00 00, else
+ * with OBOEPOND_UTF32BE, mark or no mark.
+ * Answers 0, 50 to 53 or 60; 70 and 71 as for oboepond_to_unicode. fallback, substitute, skip, result
+ * and output as for oboepond_from_utf8.
  */
 uint32_t oboepond_from_unicode(const uint32_t *record, size_t record_len,
                                const uint16_t *states, size_t states_len,
@@ -187,7 +205,7 @@ uint32_t oboepond_from_unicode(const uint32_t *record, size_t record_len,
                                const uint32_t *order, size_t order_len,
                                const uint8_t *input, size_t input_len,
                                uint8_t *output, size_t output_len,
-                               uint32_t scheme, uint32_t fallback, uint32_t substitute,
+                               uint32_t scheme, uint32_t fallback, uint32_t substitute, uint32_t skip,
                                uint64_t *result, size_t result_len);
 
 /*

@@ -3,6 +3,7 @@
 
 use crate::dynamic::{Folder, Opened};
 use crate::library::{loading, Build, Lent, LINKED};
+use crate::older;
 use crate::pipes::both_ways;
 use crate::raw::Calls;
 use crate::texts::{load_texts, mappings, table_text, Scheme, Texts, BLENDS, MIXED};
@@ -47,15 +48,16 @@ pub fn run(folder: &Path) {
     }
 }
 
-/// The calls of the archive; one from before UTF-32 lacks two.
+/// The calls of the archive; one from before UTF-32 lacks two, and one from
+/// before skipping has conversions without that setting.
 fn opened(archive: &Path) -> Result<Calls, String> {
     let folder = Folder::make()?;
     let shared = folder.0.join("libbefore.so");
     make_shared(archive, &shared)?;
     let library = Opened::open(&shared)?;
     // SAFETY: the types are those of the library's header.
-    unsafe {
-        Ok(Calls {
+    let calls = unsafe {
+        Calls {
             load: Some(library.call("oboepond_load")?),
             check: Some(library.call("oboepond_check")?),
             to_utf8: Some(library.call("oboepond_to_utf8")?),
@@ -63,8 +65,9 @@ fn opened(archive: &Path) -> Result<Calls, String> {
             to_unicode: library.call("oboepond_to_unicode").ok(),
             from_unicode: library.call("oboepond_from_unicode").ok(),
             audit: Some(library.call("oboepond_audit")?),
-        })
-    }
+        }
+    };
+    older::without_skip(&library, calls)
 }
 
 /// With all of the archive, whose functions call each other and none of the

@@ -63,22 +63,22 @@ impl Lent {
     }
 
     /// Number, bytes read, bytes written. UTF-8 by the calls for it alone.
-    pub fn to_unicode(&self, scheme: Scheme, input: &[u8], output: &mut [u8]) -> (u32, usize, usize) {
-        let (calls, record, memory) = (&self.build.calls, &self.record, &self.memory);
-        let mut result = [0; 2];
+    pub fn to_unicode(&self, scheme: Scheme, input: &[u8], output: &mut [u8], skip: bool) -> (u32, usize, usize) {
+        let (calls, record, memory, skip) = (&self.build.calls, &self.record, &self.memory, skip as u32);
+        let mut result = [0; 3];
         let number = match scheme {
-            Scheme::Utf8 => calls.to_utf8(record, memory, input, output, 1, &mut result),
-            Scheme::Utf32Be => calls.to_unicode(record, memory, input, output, UTF32BE, 1, &mut result),
+            Scheme::Utf8 => calls.to_utf8(record, memory, input, output, 1, skip, &mut result),
+            Scheme::Utf32Be => calls.to_unicode(record, memory, input, output, UTF32BE, 1, skip, &mut result),
         };
         (number, result[0] as usize, result[1] as usize)
     }
 
-    pub fn from_unicode(&self, scheme: Scheme, input: &[u8], output: &mut [u8]) -> (u32, usize, usize) {
-        let (calls, record, memory) = (&self.build.calls, &self.record, &self.memory);
-        let mut result = [0; 2];
+    pub fn from_unicode(&self, scheme: Scheme, input: &[u8], output: &mut [u8], skip: bool) -> (u32, usize, usize) {
+        let (calls, record, memory, skip) = (&self.build.calls, &self.record, &self.memory, skip as u32);
+        let mut result = [0; 3];
         let number = match scheme {
-            Scheme::Utf8 => calls.from_utf8(record, memory, input, output, 0, 1, &mut result),
-            Scheme::Utf32Be => calls.from_unicode(record, memory, input, output, UTF32BE, 0, 1, &mut result),
+            Scheme::Utf8 => calls.from_utf8(record, memory, input, output, 0, 1, skip, &mut result),
+            Scheme::Utf32Be => calls.from_unicode(record, memory, input, output, UTF32BE, 0, 1, skip, &mut result),
         };
         (number, result[0] as usize, result[1] as usize)
     }

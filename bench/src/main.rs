@@ -1,9 +1,9 @@
 //! Times the library beside a straightforward Rust converter over the same
 //! table in the same run, and beside ICU and iconv. Figures are ratios: time of
 //! the library divided by time of the other. The argument `look-ups` asks for the
-//! look-ups alone, `searches` for look-ups without any conversion, `schemes` for
-//! UTF-32BE beside UTF-8 alone, `peers` for ICU and iconv alone, and `before FOLDER`
-//! for another build of the library.
+//! look-ups alone, `searches` for look-ups without any conversion, `skipping` for
+//! damaged text alone, `schemes` for UTF-32BE beside UTF-8 alone, `peers` for ICU and
+//! iconv alone, and `before FOLDER` for another build of the library.
 //!
 //! Each figure but those of `searches` is the median of several rounds; a second
 //! ratio is that of the least times, for a busy machine. The state of the buffers is printed with
@@ -19,6 +19,7 @@ mod library;
 mod lookups;
 #[path = "../../tests/src/memory.rs"]
 mod memory;
+mod older;
 mod peers;
 mod pipes;
 mod plain;
@@ -31,7 +32,7 @@ mod texts;
 mod timing;
 
 use library::{loading, Lent, LINKED};
-use pipes::{both_ways, own, tested, Tested};
+use pipes::{both_ways, own, tested, Converter, PlainSkipping, Skipping, Tested};
 use plain::{Plain, Search};
 use std::cell::RefCell;
 use std::hint::black_box;
@@ -46,6 +47,7 @@ fn main() {
     match arguments[..] {
         [] => {
             own_figures();
+            skipping();
             look_ups();
             searches::run();
             peers::schemes();
@@ -53,11 +55,12 @@ fn main() {
         }
         ["look-ups"] => look_ups(),
         ["searches"] => searches::run(),
+        ["skipping"] => skipping(),
         ["schemes"] => peers::schemes(),
         ["peers"] => peers::run(),
         ["before", folder] => before::run(folder.as_ref()),
         _ => {
-            println!("arguments: none, `look-ups`, `searches`, `schemes`, `peers` or `before FOLDER`");
+            println!("arguments: none, `look-ups`, `searches`, `skipping`, `schemes`, `peers` or `before FOLDER`");
             std::process::exit(2);
         }
     }
@@ -112,6 +115,19 @@ fn conversions(all: &[Mapping], lent: &Lent, plains: &[Plain]) {
     converters.push(&tested);
     for blend in BLENDS {
         both_ways(&Texts::in_frames(all, blend), &converters);
+    }
+}
+
+/// Damaged text with skipping on.
+fn skipping() {
+    let all = mappings();
+    let text = table_text(&all);
+    let (lent, plains) = (Lent::with(LINKED, &text), Plain::all(&text));
+    let (library, plains) = (Skipping(&lent), plains.each_ref().map(PlainSkipping));
+    let others = plains.iter().map(|plain| plain as &dyn Converter);
+    let converters: Vec<&dyn Converter> = std::iter::once(&library as &dyn Converter).chain(others).collect();
+    for blend in BLENDS {
+        both_ways(&Texts::in_frames(&all, blend).damaged(), &converters);
     }
 }
 

@@ -25,11 +25,11 @@ impl Converter for Lent {
     }
 
     fn to_unicode(&self, scheme: Scheme, input: &[u8], output: &mut [u8]) -> usize {
-        whole(input, self.to_unicode(scheme, input, output))
+        whole(input, self.to_unicode(scheme, input, output, false))
     }
 
     fn from_unicode(&self, scheme: Scheme, input: &[u8], output: &mut [u8]) -> usize {
-        whole(input, self.from_unicode(scheme, input, output))
+        whole(input, self.from_unicode(scheme, input, output, false))
     }
 }
 
@@ -40,7 +40,7 @@ impl Converter for Plain {
 
     fn to_unicode(&self, scheme: Scheme, input: &[u8], output: &mut [u8]) -> usize {
         let done = match scheme {
-            Scheme::Utf8 => self.to_utf8(input, output, true),
+            Scheme::Utf8 => self.to_utf8(input, output, true, false),
             Scheme::Utf32Be => self.to_utf32be(input, output, true),
         };
         whole(input, done)
@@ -48,10 +48,44 @@ impl Converter for Plain {
 
     fn from_unicode(&self, scheme: Scheme, input: &[u8], output: &mut [u8]) -> usize {
         let done = match scheme {
-            Scheme::Utf8 => self.from_utf8(input, output, false, true),
+            Scheme::Utf8 => self.from_utf8(input, output, false, true, false),
             Scheme::Utf32Be => self.from_utf32be(input, output, false, true),
         };
         whole(input, done)
+    }
+}
+
+/// The library with skipping on.
+pub struct Skipping<'a>(pub &'a Lent);
+
+impl Converter for Skipping<'_> {
+    fn name(&self) -> &str {
+        self.0.build.name
+    }
+
+    fn to_unicode(&self, scheme: Scheme, input: &[u8], output: &mut [u8]) -> usize {
+        whole(input, self.0.to_unicode(scheme, input, output, true))
+    }
+
+    fn from_unicode(&self, scheme: Scheme, input: &[u8], output: &mut [u8]) -> usize {
+        whole(input, self.0.from_unicode(scheme, input, output, true))
+    }
+}
+
+/// The plain converter with skipping on, in UTF-8.
+pub struct PlainSkipping<'a>(pub &'a Plain);
+
+impl Converter for PlainSkipping<'_> {
+    fn name(&self) -> &str {
+        self.0.search.name()
+    }
+
+    fn to_unicode(&self, _: Scheme, input: &[u8], output: &mut [u8]) -> usize {
+        whole(input, self.0.to_utf8(input, output, true, true))
+    }
+
+    fn from_unicode(&self, _: Scheme, input: &[u8], output: &mut [u8]) -> usize {
+        whole(input, self.0.from_utf8(input, output, false, true, true))
     }
 }
 

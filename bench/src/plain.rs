@@ -256,12 +256,12 @@ impl Plain {
     }
 
     /// Number, bytes read, bytes written.
-    pub fn to_utf8(&self, input: &[u8], output: &mut [u8], substitute: bool) -> (u32, usize, usize) {
-        self.read_all(input, output, substitute, put_utf8)
+    pub fn to_utf8(&self, input: &[u8], output: &mut [u8], substitute: bool, skip: bool) -> (u32, usize, usize) {
+        self.read_all(input, output, substitute, skip, put_utf8)
     }
 
     pub fn to_utf32be(&self, input: &[u8], output: &mut [u8], substitute: bool) -> (u32, usize, usize) {
-        self.read_all(input, output, substitute, put_utf32be)
+        self.read_all(input, output, substitute, false, put_utf32be)
     }
 
     /// With a way to write a character.
@@ -271,10 +271,11 @@ impl Plain {
         input: &[u8],
         output: &mut [u8],
         substitute: bool,
+        skip: bool,
         put: impl Fn(char, &mut [u8]) -> Option<usize>,
     ) -> (u32, usize, usize) {
         let (mut at, mut out) = (0, 0);
-        while at < input.len() {
+        'sequences: while at < input.len() {
             let (mut row, mut code, mut n) = (0, 0u32, 0);
             loop {
                 let Some(&b) = input.get(at + n) else { return (51, at, out) };
@@ -284,7 +285,15 @@ impl Plain {
                 if cell >= LEAD {
                     row = (cell - LEAD) as usize;
                 } else if cell == ILLEGAL {
-                    return (52, at, out);
+                    if !skip {
+                        return (52, at, out);
+                    }
+                    let Some(length) = put('\u{fffd}', &mut output[out..]) else { return (50, at, out) };
+                    // What could begin a sequence is no part of the one that it breaks.
+                    let begins = n > 1 && self.rows[0][b as usize] != ILLEGAL;
+                    at += if begins { n - 1 } else { n };
+                    out += length;
+                    continue 'sequences;
                 } else {
                     break;
                 }
@@ -303,17 +312,38 @@ impl Plain {
         (0, at, out)
     }
 
-    pub fn from_utf8(&self, input: &[u8], output: &mut [u8], fallback: bool, substitute: bool) -> (u32, usize, usize) {
-        let (good, number) = match std::str::from_utf8(input) {
-            Ok(good) => (good, 0),
-            Err(e) => {
-                let number = if e.error_len().is_none() { 51 } else { 52 };
-                (std::str::from_utf8(&input[..e.valid_up_to()]).unwrap_or(""), number)
+    pub fn from_utf8(
+        &self,
+        input: &[u8],
+        output: &mut [u8],
+        fallback: bool,
+        substitute: bool,
+        skip: bool,
+    ) -> (u32, usize, usize) {
+        let (mut at, mut out) = (0, 0);
+        loop {
+            let (good, bad) = match std::str::from_utf8(&input[at..]) {
+                Ok(good) => (good, Some(0)),
+                Err(e) => (std::str::from_utf8(&input[at..at + e.valid_up_to()]).unwrap_or(""), e.error_len()),
+            };
+            match self.write_all(good.char_indices(), &mut output[out..], fallback, substitute) {
+                Ok(written) => (at, out) = (at + good.len(), out + written),
+                Err((number, read, written)) => return (number, at + read, out + written),
             }
-        };
-        match self.write_all(good.char_indices(), output, fallback, substitute) {
-            Ok(out) => (number, good.len(), out),
-            Err(stopped) => stopped,
+            match bad {
+                Some(0) => return (0, at, out),
+                None => return (51, at, out),
+                Some(_) if !skip => return (52, at, out),
+                // One for each byte.
+                Some(bad) => {
+                    for _ in 0..bad {
+                        let end = out + self.subchar.len();
+                        let Some(place) = output.get_mut(out..end) else { return (50, at, out) };
+                        put(&self.subchar, place);
+                        (at, out) = (at + 1, end);
+                    }
+                }
+            }
         }
     }
 

@@ -216,6 +216,22 @@ impl Texts {
         Texts { cut, codes: vec![self.codes.concat()], chars: vec![self.chars.concat()], ..self }
     }
 
+    /// One byte in 64 replaced by another by chance. The last one of a piece is a
+    /// space, so that none ends inside a sequence.
+    pub fn damaged(mut self) -> Texts {
+        let mut rng = Rng(5);
+        for piece in self.codes.iter_mut().chain(&mut self.chars) {
+            for _ in 0..piece.len() / 64 {
+                let at = rng.below(piece.len());
+                piece[at] = rng.below(256) as u8;
+            }
+            if let Some(last) = piece.last_mut() {
+                *last = b' ';
+            }
+        }
+        Texts { cut: format!("damaged, {}", self.cut), ..self }
+    }
+
     /// One piece of two-byte codes alone, 1 MiB of them: the same characters in
     /// both directions.
     pub fn of_look_ups(name: &'static str, mappings: &[Mapping]) -> Texts {

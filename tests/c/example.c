@@ -1,5 +1,6 @@
 /* Loads a small table and converts three of its bytes to UTF-8, to UTF-32 with a byte order mark, and back from
- * there. Writes for each the bytes, the number and the bytes read. */
+ * there; then three bytes with a stray one in front, which stops the conversion or is skipped. Writes for each the
+ * bytes, the number and the bytes read, and the length of an illegal sequence. */
 #include <stdio.h>
 #include <string.h>
 
@@ -33,14 +34,17 @@ static void show(const uint8_t *output, uint32_t number, const uint64_t *done)
 {
     for (uint64_t i = 0; i < done[1]; i++)
         printf("%02X ", output[i]);
-    printf("number %u, read %llu\n", number, (unsigned long long)done[0]);
+    printf("number %u, read %llu", number, (unsigned long long)done[0]);
+    if (number == OBOEPOND_ILLEGAL)
+        printf(", length %llu", (unsigned long long)done[2]);
+    printf("\n");
 }
 
 int main(void)
 {
-    static const uint8_t input[] = {0x81, 0x7c, 0x33};
+    static const uint8_t input[] = {0x81, 0x7c, 0x33}, stray[] = {0x81, 0x2d, 0x33};
     uint8_t output[4 * sizeof input + 4], back[sizeof output];
-    uint64_t loaded[1 + OBOEPOND_RECORD], done[2], returned[2];
+    uint64_t loaded[1 + OBOEPOND_RECORD], done[3], returned[3];
     uint32_t record[OBOEPOND_RECORD];
 
     uint32_t number = oboepond_load((const uint8_t *)text, strlen(text), states, OBOEPOND_STATES,
@@ -53,21 +57,38 @@ int main(void)
     for (size_t i = 0; i < OBOEPOND_RECORD; i++)
         record[i] = (uint32_t)loaded[1 + i];
 
-    number = oboepond_to_utf8(TABLE, input, sizeof input, output, sizeof output, 0, done, 2);
+    number = oboepond_to_utf8(TABLE, input, sizeof input, output, sizeof output, 0, 0, done, 3);
     show(output, number, done);
     if (number != OBOEPOND_OK)
         return 1;
 
     number = oboepond_to_unicode(TABLE, input, sizeof input, output, sizeof output,
-                                 OBOEPOND_UTF32, 0, done, 2);
+                                 OBOEPOND_UTF32, 0, 0, done, 3);
     show(output, number, done);
     if (number != OBOEPOND_OK)
         return 1;
 
     number = oboepond_from_unicode(TABLE, output, done[1], back, sizeof back,
-                                   OBOEPOND_UTF32, 0, 0, returned, 2);
+                                   OBOEPOND_UTF32, 0, 0, 0, returned, 3);
     show(back, number, returned);
+    if (number != OBOEPOND_OK || returned[1] != sizeof input || memcmp(back, input, sizeof input) != 0)
+        return 1;
+
+    /* 81 leads on, but not to 2D, which is a code of its own: a stray byte, and then -3. */
+    number = oboepond_to_utf8(TABLE, stray, sizeof stray, output, sizeof output, 0, 0, done, 3);
+    show(output, number, done);
+    if (number != OBOEPOND_ILLEGAL)
+        return 1;
+
+    /* Passed over by hand: the rest begins behind it. */
+    uint64_t behind = done[0] + done[2];
+    number = oboepond_to_utf8(TABLE, stray + behind, sizeof stray - behind, output, sizeof output, 0, 0, done, 3);
+    show(output, number, done);
     if (number != OBOEPOND_OK)
         return 1;
-    return returned[1] == sizeof input && memcmp(back, input, sizeof input) == 0 ? 0 : 1;
+
+    /* Or by the setting: U+FFFD stands in its place. */
+    number = oboepond_to_utf8(TABLE, stray, sizeof stray, output, sizeof output, 0, 1, done, 3);
+    show(output, number, done);
+    return number == OBOEPOND_OK ? 0 : 1;
 }

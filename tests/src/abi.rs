@@ -8,6 +8,9 @@ use crate::raw::LINKED;
 
 const OLD: u64 = 0x1122_3344_5566_7788;
 
+/// Values of a setting: off, and what else is on.
+const OFF_AND_ON: [u32; 5] = [0, 1, 2, 256, u32::MAX];
+
 pub type AbiCase = (&'static str, fn() -> Result<(), String>);
 
 pub const CASES: &[AbiCase] = &[
@@ -27,6 +30,10 @@ pub const CASES: &[AbiCase] = &[
     ("to Unicode with a number that is no scheme: 71", to_no_scheme),
     ("from Unicode with a number that is no scheme: 71", from_no_scheme),
     ("70 goes before 71, 71 before 60, 60 before the mark", order_of_refusals),
+    ("to Unicode, skipping: any setting but 0, a long result", to_skipping),
+    ("from Unicode, skipping: any setting but 0, a long result", from_skipping),
+    ("the length stands with 52 alone, over an old value", lengths),
+    ("skip is a setting of its own, behind the others", order_of_settings),
     ("audit with a short record or result: 70", audit_short),
     ("audit with long record and result, any setting but 0", audit_long),
     ("70 goes before 60", short_before_60),
@@ -98,53 +105,55 @@ fn check_long() -> Result<(), String> {
 
 fn to_short() -> Result<(), String> {
     let (record, memory) = k();
-    for n in 0..=7 {
-        for m in 0..=2 {
-            let mut output = old_bytes(9);
-            let mut result = vec![OLD; m];
-            let got = LINKED.to_utf8(&record[..n], &memory, b"\x81\x7c3", &mut output, 1, &mut result);
-            if n < 7 || m < 2 {
-                equal("number", got, 70)?;
-                equal_slices("result", &result, &vec![OLD; m])?;
-                equal_slices("output", &output, &old_bytes(9))?;
-            } else {
-                equal("number", got, 0)?;
-            }
+    for (n, m, skip) in short_and_not() {
+        let mut output = old_bytes(9);
+        let mut result = vec![OLD; m];
+        let got = LINKED.to_utf8(&record[..n], &memory, b"\x81\x7c3", &mut output, 1, skip, &mut result);
+        if n < 7 || m < 3 {
+            equal("number", got, 70)?;
+            equal_slices("result", &result, &vec![OLD; m])?;
+            equal_slices("output", &output, &old_bytes(9))?;
+        } else {
+            equal("number", got, 0)?;
+            equal_slices("result", &result, &[3, 4, 0])?;
         }
     }
     Ok(())
 }
 
+/// Lengths of record and result up to the needed ones, and both settings of skip.
+fn short_and_not() -> impl Iterator<Item = (usize, usize, u32)> {
+    (0..=7).flat_map(|n| (0..=3).flat_map(move |m| [(n, m, 0), (n, m, 1)]))
+}
+
 fn to_long() -> Result<(), String> {
     let (record, memory) = k();
     let long = [&record[..], &[9; 5]].concat();
-    for (substitute, number, first) in
-        [(0, 53, [0, 0]), (1, 0, [1, 3]), (2, 0, [1, 3]), (256, 0, [1, 3]), (u32::MAX, 0, [1, 3])]
-    {
+    for (substitute, skip) in OFF_AND_ON.into_iter().flat_map(|substitute| OFF_AND_ON.map(|skip| (substitute, skip))) {
+        let (number, first) = if substitute == 0 { (53, [0, 0, 0]) } else { (0, [1, 3, 0]) };
         let mut output = old_bytes(9);
-        let mut result = vec![OLD; 6];
-        let got = LINKED.to_utf8(&long, &memory, b"\x3f", &mut output, substitute, &mut result);
+        let mut result = vec![OLD; 7];
+        let got = LINKED.to_utf8(&long, &memory, b"\x3f", &mut output, substitute, skip, &mut result);
         equal("number", got, number)?;
-        equal_slices("result", &result[..2], &first)?;
-        equal_slices("result behind", &result[2..], &[OLD; 4])?;
+        equal_slices("result", &result[..3], &first)?;
+        equal_slices("result behind", &result[3..], &[OLD; 4])?;
     }
     Ok(())
 }
 
 fn from_short() -> Result<(), String> {
     let (record, memory) = k();
-    for n in 0..=7 {
-        for m in 0..=2 {
-            let mut output = old_bytes(9);
-            let mut result = vec![OLD; m];
-            let got = LINKED.from_utf8(&record[..n], &memory, b"33", &mut output, 1, 1, &mut result);
-            if n < 7 || m < 2 {
-                equal("number", got, 70)?;
-                equal_slices("result", &result, &vec![OLD; m])?;
-                equal_slices("output", &output, &old_bytes(9))?;
-            } else {
-                equal("number", got, 0)?;
-            }
+    for (n, m, skip) in short_and_not() {
+        let mut output = old_bytes(9);
+        let mut result = vec![OLD; m];
+        let got = LINKED.from_utf8(&record[..n], &memory, b"33", &mut output, 1, 1, skip, &mut result);
+        if n < 7 || m < 3 {
+            equal("number", got, 70)?;
+            equal_slices("result", &result, &vec![OLD; m])?;
+            equal_slices("output", &output, &old_bytes(9))?;
+        } else {
+            equal("number", got, 0)?;
+            equal_slices("result", &result, &[2, 2, 0])?;
         }
     }
     Ok(())
@@ -154,20 +163,19 @@ fn from_long() -> Result<(), String> {
     let (record, memory) = k();
     let long = [&record[..], &[9; 5]].concat();
     let input = b"\xef\xbc\x8d";
-    let on = [1, 2, 256, u32::MAX];
-    for fallback in [0].into_iter().chain(on) {
-        for substitute in [0].into_iter().chain(on) {
+    for fallback in OFF_AND_ON {
+        for (substitute, skip) in OFF_AND_ON.into_iter().flat_map(|s| [(s, 0), (s, 1)]) {
             let mut output = old_bytes(9);
-            let mut result = vec![OLD; 6];
-            let got = LINKED.from_utf8(&long, &memory, input, &mut output, fallback, substitute, &mut result);
-            let (number, first, out): (u32, [u64; 2], &[u8]) = match (fallback, substitute) {
-                (0, 0) => (53, [0, 0], b""),
-                (0, _) => (0, [3, 1], b"\x3f"),
-                _ => (0, [3, 2], b"\x81\x7c"),
+            let mut result = vec![OLD; 7];
+            let got = LINKED.from_utf8(&long, &memory, input, &mut output, fallback, substitute, skip, &mut result);
+            let (number, first, out): (u32, [u64; 3], &[u8]) = match (fallback, substitute) {
+                (0, 0) => (53, [0, 0, 0], b""),
+                (0, _) => (0, [3, 1, 0], b"\x3f"),
+                _ => (0, [3, 2, 0], b"\x81\x7c"),
             };
             equal("number", got, number)?;
-            equal_slices("result", &result[..2], &first)?;
-            equal_slices("result behind", &result[2..], &[OLD; 4])?;
+            equal_slices("result", &result[..3], &first)?;
+            equal_slices("result behind", &result[3..], &[OLD; 4])?;
             equal_slices("output", &output[..out.len()], out)?;
         }
     }
@@ -188,47 +196,48 @@ const NO_SCHEMES: [u32; 11] = [4, 5, 7, 8, 32, 255, 256, 257, 1 << 16, 1 << 31, 
 fn to_unicode_short() -> Result<(), String> {
     let (record, memory) = k();
     for (scheme, chars) in SCHEMES {
-        for n in 0..=7 {
-            for m in 0..=2 {
-                let mut output = old_bytes(15);
-                let mut result = vec![OLD; m];
-                let got = LINKED.to_unicode(&record[..n], &memory, b"\x81\x7c3", &mut output, scheme, 1, &mut result);
-                if n < 7 || m < 2 {
-                    equal("number", got, 70)?;
-                    equal_slices("result", &result, &vec![OLD; m])?;
-                    equal_slices("output", &output, &old_bytes(15))?;
-                } else {
-                    equal("number", got, 0)?;
-                    equal_slices("result", &result, &[3, chars.len() as u64])?;
-                    equal_slices("output", &output[..chars.len()], chars)?;
-                }
+        for (n, m, skip) in short_and_not() {
+            let mut output = old_bytes(15);
+            let mut result = vec![OLD; m];
+            let input = b"\x81\x7c3";
+            let got = LINKED.to_unicode(&record[..n], &memory, input, &mut output, scheme, 1, skip, &mut result);
+            if n < 7 || m < 3 {
+                equal("number", got, 70)?;
+                equal_slices("result", &result, &vec![OLD; m])?;
+                equal_slices("output", &output, &old_bytes(15))?;
+            } else {
+                equal("number", got, 0)?;
+                equal_slices("result", &result, &[3, chars.len() as u64, 0])?;
+                equal_slices("output", &output[..chars.len()], chars)?;
             }
         }
     }
     Ok(())
 }
 
+/// By the scheme's number: the mark that is written, and U+FFFD.
+const REPLACEMENTS: [(u32, &[u8], &[u8]); 4] = [
+    (0, b"", b"\xef\xbf\xbd"),
+    (1, b"", b"\x00\x00\xff\xfd"),
+    (2, b"", b"\xfd\xff\x00\x00"),
+    (3, b"\x00\x00\xfe\xff", b"\x00\x00\xff\xfd"),
+];
+
 fn to_unicode_long() -> Result<(), String> {
     let (record, memory) = k();
     let long = [&record[..], &[9; 5]].concat();
-    let substitutes: [(u32, &[u8], &[u8]); 4] = [
-        (0, b"", b"\xef\xbf\xbd"),
-        (1, b"", b"\x00\x00\xff\xfd"),
-        (2, b"", b"\xfd\xff\x00\x00"),
-        (3, b"\x00\x00\xfe\xff", b"\x00\x00\xff\xfd"),
-    ];
-    for (scheme, mark, substituted) in substitutes {
-        for substitute in [0, 1, 2, 256, u32::MAX] {
+    for (scheme, mark, substituted) in REPLACEMENTS {
+        for (substitute, skip) in OFF_AND_ON.into_iter().flat_map(|s| [(s, 0), (s, 1)]) {
             let mut output = old_bytes(9);
-            let mut result = vec![OLD; 6];
-            let got = LINKED.to_unicode(&long, &memory, b"\x3f", &mut output, scheme, substitute, &mut result);
+            let mut result = vec![OLD; 7];
+            let got = LINKED.to_unicode(&long, &memory, b"\x3f", &mut output, scheme, substitute, skip, &mut result);
             let (number, read, out) = match substitute {
                 0 => (53, 0, mark.to_vec()),
                 _ => (0, 1, [mark, substituted].concat()),
             };
             equal("number", got, number)?;
-            equal_slices("result", &result[..2], &[read, out.len() as u64])?;
-            equal_slices("result behind", &result[2..], &[OLD; 4])?;
+            equal_slices("result", &result[..3], &[read, out.len() as u64, 0])?;
+            equal_slices("result behind", &result[3..], &[OLD; 4])?;
             equal_slices("output", &output[..out.len()], &out)?;
             equal_slices("output behind", &output[out.len()..], &old_bytes(9)[out.len()..])?;
         }
@@ -239,20 +248,18 @@ fn to_unicode_long() -> Result<(), String> {
 fn from_unicode_short() -> Result<(), String> {
     let (record, memory) = k();
     for (scheme, chars) in SCHEMES {
-        for n in 0..=7 {
-            for m in 0..=2 {
-                let mut output = old_bytes(9);
-                let mut result = vec![OLD; m];
-                let got = LINKED.from_unicode(&record[..n], &memory, chars, &mut output, scheme, 1, 1, &mut result);
-                if n < 7 || m < 2 {
-                    equal("number", got, 70)?;
-                    equal_slices("result", &result, &vec![OLD; m])?;
-                    equal_slices("output", &output, &old_bytes(9))?;
-                } else {
-                    equal("number", got, 0)?;
-                    equal_slices("result", &result, &[chars.len() as u64, 3])?;
-                    equal_slices("output", &output[..3], b"\x81\x7c3")?;
-                }
+        for (n, m, skip) in short_and_not() {
+            let mut output = old_bytes(9);
+            let mut result = vec![OLD; m];
+            let got = LINKED.from_unicode(&record[..n], &memory, chars, &mut output, scheme, 1, 1, skip, &mut result);
+            if n < 7 || m < 3 {
+                equal("number", got, 70)?;
+                equal_slices("result", &result, &vec![OLD; m])?;
+                equal_slices("output", &output, &old_bytes(9))?;
+            } else {
+                equal("number", got, 0)?;
+                equal_slices("result", &result, &[chars.len() as u64, 3, 0])?;
+                equal_slices("output", &output[..3], b"\x81\x7c3")?;
             }
         }
     }
@@ -270,22 +277,21 @@ fn from_unicode_long() -> Result<(), String> {
         (3, b"\x00\x00\xfe\xff\x00\x00\xff\x0d", 4),
         (3, b"\xff\xfe\x00\x00\x0d\xff\x00\x00", 4),
     ];
-    let on = [1, 2, 256, u32::MAX];
     for (scheme, input, mark) in inputs {
-        for fallback in [0].into_iter().chain(on) {
-            for substitute in [0].into_iter().chain(on) {
-                let (mut output, mut result) = (old_bytes(9), vec![OLD; 6]);
-                let got =
-                    LINKED.from_unicode(&long, &memory, input, &mut output, scheme, fallback, substitute, &mut result);
+        for fallback in OFF_AND_ON {
+            for (substitute, skip) in OFF_AND_ON.into_iter().flat_map(|s| [(s, 0), (s, 1)]) {
+                let (mut output, mut result) = (old_bytes(9), vec![OLD; 7]);
+                let (f, s) = (fallback, substitute);
+                let got = LINKED.from_unicode(&long, &memory, input, &mut output, scheme, f, s, skip, &mut result);
                 let all = input.len() as u64;
-                let (number, first, out): (u32, [u64; 2], &[u8]) = match (fallback, substitute) {
-                    (0, 0) => (53, [mark, 0], b""),
-                    (0, _) => (0, [all, 1], b"\x3f"),
-                    _ => (0, [all, 2], b"\x81\x7c"),
+                let (number, first, out): (u32, [u64; 3], &[u8]) = match (fallback, substitute) {
+                    (0, 0) => (53, [mark, 0, 0], b""),
+                    (0, _) => (0, [all, 1, 0], b"\x3f"),
+                    _ => (0, [all, 2, 0], b"\x81\x7c"),
                 };
                 equal("number", got, number)?;
-                equal_slices("result", &result[..2], &first)?;
-                equal_slices("result behind", &result[2..], &[OLD; 4])?;
+                equal_slices("result", &result[..3], &first)?;
+                equal_slices("result behind", &result[3..], &[OLD; 4])?;
                 equal_slices("output", &output[..out.len()], out)?;
             }
         }
@@ -294,14 +300,14 @@ fn from_unicode_long() -> Result<(), String> {
 }
 
 /// Nothing happens: result and output keep their values, whatever the table,
-/// the input and the space.
+/// the input, the space and skip.
 fn to_no_scheme() -> Result<(), String> {
     let (record, memory) = k();
-    for scheme in NO_SCHEMES {
+    for (scheme, skip) in NO_SCHEMES.into_iter().flat_map(|scheme| [(scheme, 0), (scheme, 1)]) {
         for (record, memory) in [(record, &memory), ([0; 7], &memory), (record, &Memory::default())] {
             for (input, space) in [(&b"\x81\x7c3"[..], 15), (b"\x81\x7c3", 3), (b"", 9), (b"", 0), (b"\xff", 9)] {
                 let (mut output, mut result) = (old_bytes(space), [OLD; 4]);
-                let got = LINKED.to_unicode(&record, memory, input, &mut output, scheme, 1, &mut result);
+                let got = LINKED.to_unicode(&record, memory, input, &mut output, scheme, 1, skip, &mut result);
                 equal(&format!("number for {scheme}"), got, 71)?;
                 equal_slices("result", &result, &[OLD; 4])?;
                 equal_slices("output", &output, &old_bytes(space))?;
@@ -313,11 +319,11 @@ fn to_no_scheme() -> Result<(), String> {
 
 fn from_no_scheme() -> Result<(), String> {
     let (record, memory) = k();
-    for scheme in NO_SCHEMES {
+    for (scheme, skip) in NO_SCHEMES.into_iter().flat_map(|scheme| [(scheme, 0), (scheme, 1)]) {
         for (record, memory) in [(record, &memory), ([0; 7], &memory), (record, &Memory::default())] {
             for (input, space) in [(&b"33"[..], 9), (b"\x00\x00\x003", 9), (b"33", 0), (b"", 0), (b"\xff", 9)] {
                 let (mut output, mut result) = (old_bytes(space), [OLD; 4]);
-                let got = LINKED.from_unicode(&record, memory, input, &mut output, scheme, 1, 1, &mut result);
+                let got = LINKED.from_unicode(&record, memory, input, &mut output, scheme, 1, 1, skip, &mut result);
                 equal(&format!("number for {scheme}"), got, 71)?;
                 equal_slices("result", &result, &[OLD; 4])?;
                 equal_slices("output", &output, &old_bytes(space))?;
@@ -329,28 +335,193 @@ fn from_no_scheme() -> Result<(), String> {
 
 fn order_of_refusals() -> Result<(), String> {
     let none = Memory::default();
-    for scheme in NO_SCHEMES {
-        for (record, m) in [(&[0; 6][..], 2), (&[0; 7], 1), (&[0; 7], 0), (&[], 2)] {
+    for (scheme, skip) in NO_SCHEMES.into_iter().flat_map(|scheme| [(scheme, 0), (scheme, 1)]) {
+        for (record, m) in [(&[0; 6][..], 3), (&[0; 7], 2), (&[0; 7], 1), (&[0; 7], 0), (&[], 3)] {
             let mut result = vec![OLD; m];
-            equal("to Unicode", LINKED.to_unicode(record, &none, b"3", &mut [], scheme, 0, &mut result), 70)?;
-            equal("from Unicode", LINKED.from_unicode(record, &none, b"3", &mut [], scheme, 0, 0, &mut result), 70)?;
+            let got = LINKED.to_unicode(record, &none, b"3", &mut [], scheme, 0, skip, &mut result);
+            equal("to Unicode", got, 70)?;
+            let got = LINKED.from_unicode(record, &none, b"3", &mut [], scheme, 0, 0, skip, &mut result);
+            equal("from Unicode", got, 70)?;
             equal_slices("result", &result, &vec![OLD; m])?;
         }
-        equal("to Unicode", LINKED.to_unicode(&[0; 7], &none, b"3", &mut [], scheme, 0, &mut [OLD; 2]), 71)?;
-        equal("from Unicode", LINKED.from_unicode(&[0; 7], &none, b"3", &mut [], scheme, 0, 0, &mut [OLD; 2]), 71)?;
+        let got = LINKED.to_unicode(&[0; 7], &none, b"3", &mut [], scheme, 0, skip, &mut [OLD; 3]);
+        equal("to Unicode", got, 71)?;
+        let got = LINKED.from_unicode(&[0; 7], &none, b"3", &mut [], scheme, 0, 0, skip, &mut [OLD; 3]);
+        equal("from Unicode", got, 71)?;
     }
-    for scheme in 0..4 {
+    for (scheme, skip) in (0..4).flat_map(|scheme| [(scheme, 0), (scheme, 1)]) {
         for space in [0, 3, 9] {
-            let (mut output, mut result) = (old_bytes(space), [OLD; 2]);
-            let got = LINKED.to_unicode(&[0; 7], &none, b"3", &mut output, scheme, 0, &mut result);
+            let (mut output, mut result) = (old_bytes(space), [OLD; 3]);
+            let got = LINKED.to_unicode(&[0; 7], &none, b"\xff", &mut output, scheme, 0, skip, &mut result);
             equal("to Unicode", got, 60)?;
-            equal_slices("result", &result, &[0, 0])?;
-            result = [OLD; 2];
+            equal_slices("result", &result, &[0, 0, 0])?;
+            result = [OLD; 3];
             let mark = b"\x00\x00\xfe\xff";
-            let got = LINKED.from_unicode(&[0; 7], &none, mark, &mut output, scheme, 0, 0, &mut result);
+            let got = LINKED.from_unicode(&[0; 7], &none, mark, &mut output, scheme, 0, 0, skip, &mut result);
             equal("from Unicode", got, 60)?;
-            equal_slices("result", &result, &[0, 0])?;
+            equal_slices("result", &result, &[0, 0, 0])?;
             equal_slices("output", &output, &old_bytes(space))?;
+        }
+    }
+    Ok(())
+}
+
+/// A stray 81 before -3, strict: 52 with its length, or skipped.
+fn to_skipping() -> Result<(), String> {
+    let (record, memory) = k();
+    let input = b"\x81\x2d\x33";
+    for (scheme, mark, replacement) in REPLACEMENTS {
+        let rest: &[u8] = match scheme {
+            0 => b"-3",
+            2 => b"-\x00\x00\x003\x00\x00\x00",
+            _ => b"\x00\x00\x00-\x00\x00\x003",
+        };
+        for skip in OFF_AND_ON {
+            let (number, first, out) = match skip {
+                0 => (52, [0, mark.len() as u64, 1], mark.to_vec()),
+                _ => {
+                    let out = [mark, replacement, rest].concat();
+                    (0, [3, out.len() as u64, 0], out)
+                }
+            };
+            let mut want = old_bytes(20);
+            want[..out.len()].copy_from_slice(&out);
+            let (mut output, mut result) = (old_bytes(20), vec![OLD; 7]);
+            let got = LINKED.to_unicode(&record, &memory, input, &mut output, scheme, 0, skip, &mut result);
+            equal(&format!("number, scheme {scheme}, skip {skip}"), got, number)?;
+            equal_slices("result", &result[..3], &first)?;
+            equal_slices("result behind", &result[3..], &[OLD; 4])?;
+            equal_slices("output", &output, &want)?;
+            if scheme == 0 {
+                let (mut output, mut result) = (old_bytes(20), vec![OLD; 7]);
+                let got = LINKED.to_utf8(&record, &memory, input, &mut output, 0, skip, &mut result);
+                equal(&format!("number to UTF-8, skip {skip}"), got, number)?;
+                equal_slices("result", &result[..3], &first)?;
+                equal_slices("result behind", &result[3..], &[OLD; 4])?;
+                equal_slices("output", &output, &want)?;
+            }
+        }
+    }
+    Ok(())
+}
+
+/// An illegal byte or surrogate before 3, strict.
+fn from_skipping() -> Result<(), String> {
+    let (record, memory) = k();
+    let inputs: [(u32, &[u8], u64, u64); 5] = [
+        (0, b"\xff3", 0, 1),
+        (1, b"\x00\x00\xd8\x00\x00\x00\x003", 0, 4),
+        (2, b"\x00\xd8\x00\x003\x00\x00\x00", 0, 4),
+        (3, b"\x00\x00\xfe\xff\x00\x00\xd8\x00\x00\x00\x003", 4, 4),
+        (3, b"\xff\xfe\x00\x00\x00\xd8\x00\x003\x00\x00\x00", 4, 4),
+    ];
+    for (scheme, input, mark, length) in inputs {
+        for skip in OFF_AND_ON {
+            let (number, first, out): (u32, [u64; 3], &[u8]) = match skip {
+                0 => (52, [mark, 0, length], b""),
+                _ => (0, [input.len() as u64, 2, 0], b"?3"),
+            };
+            let mut want = old_bytes(9);
+            want[..out.len()].copy_from_slice(out);
+            let (mut output, mut result) = (old_bytes(9), vec![OLD; 7]);
+            let got = LINKED.from_unicode(&record, &memory, input, &mut output, scheme, 0, 0, skip, &mut result);
+            equal(&format!("number, scheme {scheme}, skip {skip}"), got, number)?;
+            equal_slices("result", &result[..3], &first)?;
+            equal_slices("result behind", &result[3..], &[OLD; 4])?;
+            equal_slices("output", &output, &want)?;
+            if scheme == 0 {
+                let (mut output, mut result) = (old_bytes(9), vec![OLD; 7]);
+                let got = LINKED.from_utf8(&record, &memory, input, &mut output, 0, 0, skip, &mut result);
+                equal(&format!("number from UTF-8, skip {skip}"), got, number)?;
+                equal_slices("result", &result[..3], &first)?;
+                equal_slices("result behind", &result[3..], &[OLD; 4])?;
+                equal_slices("output", &output, &want)?;
+            }
+        }
+    }
+    Ok(())
+}
+
+/// Input, space, skip; then the number and the whole result.
+type Told = (&'static [u8], usize, u32, u32, [u64; 3]);
+
+/// Each number with a result that holds old values: the third is always written.
+fn lengths() -> Result<(), String> {
+    let (record, memory) = k();
+    let frames: [Told; 9] = [
+        (b"3", 9, 0, 0, [1, 1, 0]),
+        (b"", 9, 0, 0, [0, 0, 0]),
+        (b"3", 0, 0, 50, [0, 0, 0]),
+        (b"3\x81", 9, 0, 51, [1, 1, 0]),
+        (b"3\x81-", 9, 0, 52, [1, 1, 1]),
+        (b"3\x81\xff", 9, 0, 52, [1, 1, 2]),
+        (b"3\x81\x80", 9, 0, 53, [1, 1, 0]),
+        (b"3\xff", 3, 1, 50, [1, 1, 0]),
+        (b"\x81\x81", 9, 1, 51, [1, 3, 0]),
+    ];
+    for (frame, space, skip, number, want) in frames {
+        let mut result = [OLD; 3];
+        let got = LINKED.to_utf8(&record, &memory, frame, &mut old_bytes(space), 0, skip, &mut result);
+        equal(&format!("to UTF-8, {frame:02x?}"), (got, result), (number, want))?;
+    }
+    let texts: [Told; 7] = [
+        (b"3", 9, 0, 0, [1, 1, 0]),
+        (b"3", 0, 0, 50, [0, 0, 0]),
+        (b"3\xe2\x88", 9, 0, 51, [1, 1, 0]),
+        (b"3\xe2\x883", 9, 0, 52, [1, 1, 1]),
+        (b"3A", 9, 0, 53, [1, 1, 0]),
+        (b"3\xff", 1, 1, 50, [1, 1, 0]),
+        (b"\xff\xe2\x88", 9, 1, 51, [1, 1, 0]),
+    ];
+    for (text, space, skip, number, want) in texts {
+        let mut result = [OLD; 3];
+        let got = LINKED.from_utf8(&record, &memory, text, &mut old_bytes(space), 0, 0, skip, &mut result);
+        equal(&format!("from UTF-8, {text:02x?}"), (got, result), (number, want))?;
+    }
+    Ok(())
+}
+
+/// Of several settings just one on: what it does shows which one it is.
+fn order_of_settings() -> Result<(), String> {
+    let (record, memory) = k();
+    for (substitute, skip) in [(0, 0), (0, 1), (1, 0), (1, 1)] {
+        // An unassigned code, then an illegal byte.
+        for (frame, on, off) in [(b"\x3f", substitute, 53), (b"\xff", skip, 52)] {
+            let number = if on == 1 { 0 } else { off };
+            let mut result = [OLD; 3];
+            let got = LINKED.to_utf8(&record, &memory, frame, &mut old_bytes(9), substitute, skip, &mut result);
+            equal(&format!("to UTF-8, {frame:02x?}, {substitute} {skip}"), got, number)?;
+            for scheme in 0..4 {
+                let mut output = old_bytes(9);
+                let got =
+                    LINKED.to_unicode(&record, &memory, frame, &mut output, scheme, substitute, skip, &mut result);
+                equal(&format!("to Unicode, {frame:02x?}, {substitute} {skip}"), got, number)?;
+            }
+        }
+    }
+    for bits in 0..8u32 {
+        let (fallback, substitute, skip) = (bits & 1, bits >> 1 & 1, bits >> 2 & 1);
+        // U+FF0D, which a fallback has; U+0041, which no line has; an illegal byte.
+        let wide: &[u8] = if fallback == 1 { b"\x81\x7c" } else { b"?" };
+        let texts: [(&[u8], u32, u32, &[u8]); 3] = [
+            (b"\xef\xbc\x8d", fallback | substitute, 53, wide),
+            (b"A", substitute, 53, b"?"),
+            (b"\xff", skip, 52, b"?"),
+        ];
+        for (text, on, off, out) in texts {
+            let number = if on == 1 { 0 } else { off };
+            let what = format!("{text:02x?}, {fallback} {substitute} {skip}");
+            let (mut output, mut result) = (old_bytes(9), [OLD; 3]);
+            let got = LINKED.from_utf8(&record, &memory, text, &mut output, fallback, substitute, skip, &mut result);
+            equal(&format!("from UTF-8, {what}"), got, number)?;
+            let (mut other, mut second) = (old_bytes(9), [OLD; 3]);
+            let (f, s) = (fallback, substitute);
+            let same = LINKED.from_unicode(&record, &memory, text, &mut other, 0, f, s, skip, &mut second);
+            equal(&format!("from Unicode, {what}"), (same, second, &other), (got, result, &output))?;
+            if number == 0 {
+                equal_slices(&what, &output[..out.len()], out)?;
+                equal(&what, result[1], out.len() as u64)?;
+            }
         }
     }
     Ok(())
@@ -403,13 +574,17 @@ fn audit_long() -> Result<(), String> {
 fn short_before_60() -> Result<(), String> {
     let none = Memory::default();
     equal("check", LINKED.check(&[0; 6], &none), 70)?;
-    equal("to UTF-8", LINKED.to_utf8(&[0; 7], &none, b"", &mut [], 0, &mut [OLD; 1]), 70)?;
-    equal("from UTF-8", LINKED.from_utf8(&[0; 6], &none, b"", &mut [], 0, 0, &mut [OLD; 2]), 70)?;
-    for scheme in 0..4 {
-        let got = LINKED.to_unicode(&[0; 6], &none, b"", &mut [], scheme, 0, &mut [OLD; 2]);
-        equal("to Unicode", got, 70)?;
-        let got = LINKED.from_unicode(&[0; 7], &none, b"", &mut [], scheme, 0, 0, &mut [OLD; 1]);
-        equal("from Unicode", got, 70)?;
+    for skip in [0, 1] {
+        let got = LINKED.to_utf8(&[0; 7], &none, b"", &mut [], 0, skip, &mut [OLD; 2]);
+        equal("to UTF-8", got, 70)?;
+        let got = LINKED.from_utf8(&[0; 6], &none, b"", &mut [], 0, 0, skip, &mut [OLD; 3]);
+        equal("from UTF-8", got, 70)?;
+        for scheme in 0..4 {
+            let got = LINKED.to_unicode(&[0; 6], &none, b"", &mut [], scheme, 0, skip, &mut [OLD; 3]);
+            equal("to Unicode", got, 70)?;
+            let got = LINKED.from_unicode(&[0; 7], &none, b"", &mut [], scheme, 0, 0, skip, &mut [OLD; 2]);
+            equal("from Unicode", got, 70)?;
+        }
     }
     equal("audit", LINKED.audit(&[0; 7], &none, 0, 9, 9, 0, &mut [], &mut [OLD; 4]), 70)
 }

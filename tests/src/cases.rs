@@ -3,7 +3,7 @@
 //! against the library alike. Expected values are written by hand, never
 //! computed by the oracle.
 
-use crate::oracle::{Audited, Loaded, Memory, Piped, Record, Scheme, MAPPING_PLACES, STATE_PLACES};
+use crate::oracle::{Audited, Loaded, Memory, Piped, Record, Scheme, Settings, MAPPING_PLACES, STATE_PLACES};
 use crate::subject::Subject;
 
 type Run = Box<dyn Fn(&dyn Subject) -> Result<(), String>>;
@@ -302,16 +302,74 @@ pub struct List {
     pub cases: Vec<Case>,
 }
 
-/// Settings of a conversion.
-#[derive(Clone, Copy)]
-struct Set {
-    fallback: bool,
-    substitute: bool,
+pub const STRICT: Settings = Settings { fallback: false, substitute: false, skip: false };
+pub const SUBST: Settings = Settings { fallback: false, substitute: true, skip: false };
+const FALL: Settings = Settings { fallback: true, substitute: false, skip: false };
+const FALL_SUBST: Settings = Settings { fallback: true, substitute: true, skip: false };
+// The same with illegal sequences passed over.
+const SKIP: Settings = skipping(STRICT);
+const SKIP_SUBST: Settings = skipping(SUBST);
+const SKIP_FALL: Settings = skipping(FALL);
+const SKIP_FALL_SUBST: Settings = skipping(FALL_SUBST);
+
+pub const fn skipping(set: Settings) -> Settings {
+    Settings { skip: true, ..set }
 }
-const STRICT: Set = Set { fallback: false, substitute: false };
-const SUBST: Set = Set { fallback: false, substitute: true };
-const FALL: Set = Set { fallback: true, substitute: false };
-const FALL_SUBST: Set = Set { fallback: true, substitute: true };
+
+/// The number at a conversion's end, and the length of the sequence for 52.
+#[derive(Clone, Copy)]
+struct End {
+    number: u32,
+    length: u64,
+}
+
+/// 52 for a sequence of this length.
+const fn illegal(length: u64) -> End {
+    End { number: 52, length }
+}
+
+impl From<u32> for End {
+    fn from(number: u32) -> End {
+        assert_ne!(number, 52, "52 comes with a length");
+        End { number, length: 0 }
+    }
+}
+
+/// Answer and output of a conversion; the rest of the space untouched. What a
+/// case says without skipping holds with it too, unless it is 52.
+fn converts_to(
+    set: Settings,
+    space: usize,
+    end: End,
+    read: u64,
+    out: &[u8],
+    convert: impl Fn(&mut [u8], Settings) -> Piped,
+) -> Result<(), String> {
+    let want = Piped { number: end.number, read, written: out.len() as u64, length: end.length };
+    let mut want_output = old_bytes(space);
+    want_output[..out.len()].copy_from_slice(out);
+    let mut output = old_bytes(space);
+    equal("answer", convert(&mut output, set), want)?;
+    equal_slices("output", &output, &want_output)?;
+    if set.skip {
+        return Ok(());
+    }
+    let mut output = old_bytes(space);
+    let got = convert(&mut output, skipping(set));
+    if end.number == 52 {
+        equal("skipping, 52 or a length", got.number == 52 || got.length != 0, false)?;
+        equal("skipping, at least as far", got.read >= read && got.written >= want.written, true)?;
+        return equal_slices("skipping, output before", &output[..out.len()], out);
+    }
+    equal("skipping, answer", got, want)?;
+    equal_slices("skipping, output", &output, &want_output)
+}
+
+/// The name of a conversion's case.
+fn named(way: &str, scheme: Scheme, set: Settings, name: &str, number: u32) -> String {
+    let how = if set.skip { ", skipping" } else { "" };
+    format!("{way} {}{how}, {name}: {number}", scheme.name())
+}
 
 impl List {
     fn add(
@@ -391,12 +449,12 @@ impl List {
         table: impl AsRef<[u8]>,
         input: &str,
         space: usize,
-        set: Set,
-        number: u32,
+        set: Settings,
+        end: impl Into<End>,
         read: u64,
         out: &str,
     ) {
-        self.to_in(Scheme::Utf8, name, table, input, space, set, number, read, out);
+        self.to_in(Scheme::Utf8, name, table, input, space, set, end, read, out);
     }
 
     /// The same to a scheme.
@@ -408,24 +466,21 @@ impl List {
         table: impl AsRef<[u8]>,
         input: &str,
         space: usize,
-        set: Set,
-        number: u32,
+        set: Settings,
+        end: impl Into<End>,
         read: u64,
         out: &str,
     ) {
-        let (table, input, out) = (table.as_ref().to_vec(), hex(input), hex(out));
-        self.add(format!("to {}, {name}: {number}", scheme.name()), move |s| {
+        let (table, input, out, end) = (table.as_ref().to_vec(), hex(input), hex(out), end.into());
+        self.add(named("to", scheme, set, name, end.number), move |s| {
             let (record, memory) = is_accepted(s, &table)?;
-            let mut output = old_bytes(space);
-            let got = s.to_unicode(&record, &memory, &input, &mut output, scheme, set.substitute);
-            equal("answer", got, Piped { number, read, written: out.len() as u64 })?;
-            let mut want = old_bytes(space);
-            want[..out.len()].copy_from_slice(&out);
-            equal_slices("output", &output, &want)
+            converts_to(set, space, end, read, &out, |output, set| {
+                s.to_unicode(&record, &memory, &input, output, scheme, set)
+            })
         });
     }
 
-    /// From UTF-8.
+    /// From UTF-8. The length for 52 is 1 there, and 4 in UTF-32.
     #[allow(clippy::too_many_arguments)]
     fn from(
         &mut self,
@@ -433,7 +488,7 @@ impl List {
         table: impl AsRef<[u8]>,
         input: &str,
         space: usize,
-        set: Set,
+        set: Settings,
         number: u32,
         read: u64,
         out: &str,
@@ -450,21 +505,22 @@ impl List {
         table: impl AsRef<[u8]>,
         input: &str,
         space: usize,
-        set: Set,
+        set: Settings,
         number: u32,
         read: u64,
         out: &str,
     ) {
         let (table, input, out) = (table.as_ref().to_vec(), hex(input), hex(out));
-        self.add(format!("from {}, {name}: {number}", scheme.name()), move |s| {
+        let end = match (number, scheme) {
+            (52, Scheme::Utf8) => illegal(1),
+            (52, _) => illegal(4),
+            _ => number.into(),
+        };
+        self.add(named("from", scheme, set, name, number), move |s| {
             let (record, memory) = is_accepted(s, &table)?;
-            let mut output = old_bytes(space);
-            let (f, u) = (set.fallback, set.substitute);
-            let got = s.from_unicode(&record, &memory, &input, &mut output, scheme, f, u);
-            equal("answer", got, Piped { number, read, written: out.len() as u64 })?;
-            let mut want = old_bytes(space);
-            want[..out.len()].copy_from_slice(&out);
-            equal_slices("output", &output, &want)
+            converts_to(set, space, end, read, &out, |output, set| {
+                s.from_unicode(&record, &memory, &input, output, scheme, set)
+            })
         });
     }
 
@@ -536,15 +592,17 @@ impl List {
             change(&mut record, &mut memory);
             equal("check", s.check(&record, &memory), want)?;
             if want == 60 {
-                let none = Piped { number: 60, read: 0, written: 0 };
-                for scheme in Scheme::ALL {
+                let none = Piped { number: 60, read: 0, written: 0, length: 0 };
+                // Good bytes and a mark, and what is illegal at once or behind a mark.
+                let inputs: [(&[u8], &[u8]); 2] =
+                    [(b"3", b"\x00\x00\xfe\xff3"), (b"\xff", b"\xff\xfe\x00\x00\xff\xff\xff\xff")];
+                for (scheme, set) in Scheme::ALL.into_iter().flat_map(|s| [(s, FALL_SUBST), (s, SKIP_FALL_SUBST)]) {
                     // With three places there would be no room for a mark: 60 comes first.
-                    for space in [3, 9] {
+                    for (space, (frame, text)) in [3, 9].into_iter().flat_map(|space| inputs.map(|i| (space, i))) {
                         let mut output = old_bytes(space);
-                        let got = s.to_unicode(&record, &memory, b"3", &mut output, scheme, true);
+                        let got = s.to_unicode(&record, &memory, frame, &mut output, scheme, set);
                         equal(&format!("to {}", scheme.name()), got, none)?;
-                        let marked = b"\x00\x00\xfe\xff3";
-                        let got = s.from_unicode(&record, &memory, marked, &mut output, scheme, true, true);
+                        let got = s.from_unicode(&record, &memory, text, &mut output, scheme, set);
                         equal(&format!("from {}", scheme.name()), got, none)?;
                         equal_slices("output", &output, &old_bytes(space))?;
                     }
@@ -584,6 +642,13 @@ pub fn all() -> List {
     utf32_spaces(&mut l);
     utf32_settings(&mut l);
     utf32_long(&mut l);
+    skip_k(&mut l);
+    skip_cuts(&mut l);
+    skip_settings(&mut l);
+    skip_spaces(&mut l);
+    skip_utf8(&mut l);
+    skip_utf32(&mut l);
+    skip_long(&mut l);
     audits(&mut l);
     l
 }
@@ -599,7 +664,7 @@ fn document_cases(l: &mut List) {
     l.from("case 3, fallback and substitute", K, "EFBC8D33", 9, FALL_SUBST, 0, 4, "817C33");
     for (set, how) in [(STRICT, "strict"), (SUBST, "substitute")] {
         l.to(&format!("case 4, 81, {how}"), K, "81", 9, set, 51, 0, "");
-        l.to(&format!("case 4, 81 2D 33, {how}"), K, "812D33", 9, set, 52, 0, "");
+        l.to(&format!("case 4, 81 2D 33, {how}"), K, "812D33", 9, set, illegal(1), 0, "");
         l.to(&format!("case 4, empty, {how}"), K, "", 9, set, 0, 0, "");
     }
     l.to("case 5, substitute", K, "8180", 9, SUBST, 0, 2, "EFBFBD");
@@ -1307,8 +1372,8 @@ fn sizes(l: &mut List) {
                 if number == 0 {
                     equal("check", s.check(&got.record, &memory), 0)?;
                     let mut out = old_bytes(9);
-                    let got = s.to_unicode(&got.record, &memory, b"\x81\x7c3", &mut out, Scheme::Utf8, false);
-                    equal("to UTF-8", got, Piped { number: 0, read: 3, written: 4 })?;
+                    let got = s.to_unicode(&got.record, &memory, b"\x81\x7c3", &mut out, Scheme::Utf8, STRICT);
+                    equal("to UTF-8", got, Piped { number: 0, read: 3, written: 4, length: 0 })?;
                 }
             }
             Ok(())
@@ -1660,10 +1725,16 @@ fn conversions(l: &mut List) {
     // Around 64 bytes, from which on the places of lines are kept at hand: the same answers, line by line.
     for n in [62u64, 63, 64, 65, 66, 300] {
         let before = |end: u64| "33".repeat((n - end) as usize);
-        for (code, number, out) in [("817C", 0, "E28892"), ("817D", 0, "E28892"), ("8180", 53, ""), ("812D", 52, "")] {
+        for (code, number, length, out) in [
+            ("817C", 0, 0, "E28892"),
+            ("817D", 0, 0, "E28892"),
+            ("8180", 53, 0, ""),
+            ("812D", 52, 1, ""),
+            ("81FF", 52, 2, ""),
+        ] {
             let read = if number == 0 { n } else { n - 2 };
-            let (input, out) = (before(2) + code, before(2) + out);
-            l.to(&format!("{n} bytes, the last two {code}"), K, &input, 999, STRICT, number, read, &out);
+            let (input, out, end) = (before(2) + code, before(2) + out, End { number, length });
+            l.to(&format!("{n} bytes, the last two {code}"), K, &input, 999, STRICT, end, read, &out);
         }
         for (point, setting, number, out) in [
             ("E28892", STRICT, 0, "817C"),
@@ -1679,34 +1750,35 @@ fn conversions(l: &mut List) {
     }
     // At one place the earlier line wins: 51, 52, 53 before 50.
     l.to("51 before 50", K, "81", 0, SUBST, 51, 0, "");
-    l.to("52 before 50", K, "FF", 0, SUBST, 52, 0, "");
+    l.to("52 before 50", K, "FF", 0, SUBST, illegal(1), 0, "");
     l.to("53 before 50", K, "3F", 0, STRICT, 53, 0, "");
     l.to("50 when substituted", K, "3F", 2, SUBST, 50, 0, "");
     l.to("50 at the first place, 52 at the second", K, "33FF", 0, STRICT, 50, 0, "");
-    l.to("52 behind what fits", K, "33FF", 1, STRICT, 52, 1, "33");
+    l.to("52 behind what fits", K, "33FF", 1, STRICT, illegal(1), 1, "33");
     l.from("51 before 50", K, "E288", 0, SUBST, 51, 0, "");
     l.from("52 before 50", K, "FF", 0, SUBST, 52, 0, "");
     l.from("53 before 50", K, "41", 0, STRICT, 53, 0, "");
     l.from("50 when substituted", K, "41", 0, SUBST, 50, 0, "");
     l.from("50 at the first place, 52 at the second", K, "33FF", 0, STRICT, 50, 0, "");
     l.from("what was written stands", K, "3330FF33", 9, STRICT, 52, 2, "3330");
-    l.to("what was written stands", K, "3330FF33", 9, STRICT, 52, 2, "3330");
+    l.to("what was written stands", K, "3330FF33", 9, STRICT, illegal(1), 2, "3330");
     // K's bytes, all of them.
     for b in 0..=255u32 {
         let input = format!("{b:02X}");
-        let (number, read, out) = match b {
-            0x2d | 0x30 | 0x33 => (0, 1, input.clone()),
-            0x3f => (0, 1, "EFBFBD".to_string()),
-            0x81 => (51, 0, String::new()),
-            _ => (52, 0, String::new()),
+        let (end, read, out) = match b {
+            0x2d | 0x30 | 0x33 => (0.into(), 1, input.clone()),
+            0x3f => (0.into(), 1, "EFBFBD".to_string()),
+            0x81 => (51.into(), 0, String::new()),
+            _ => (illegal(1), 0, String::new()),
         };
-        l.to(&format!("byte {input}"), K, &input, 9, SUBST, number, read, &out);
-        let (number, read, out) = match b {
-            0x7c | 0x7d => (0, 2, "E28892".to_string()),
-            0x80 => (0, 2, "EFBFBD".to_string()),
-            _ => (52, 0, String::new()),
+        l.to(&format!("byte {input}"), K, &input, 9, SUBST, end, read, &out);
+        let (end, read, out) = match b {
+            0x7c | 0x7d => (0.into(), 2, "E28892".to_string()),
+            0x80 => (0.into(), 2, "EFBFBD".to_string()),
+            0x2d | 0x30 | 0x33 | 0x3f | 0x81 => (illegal(1), 0, String::new()),
+            _ => (illegal(2), 0, String::new()),
         };
-        l.to(&format!("bytes 81 {input}"), K, &format!("81{input}"), 9, SUBST, number, read, &out);
+        l.to(&format!("bytes 81 {input}"), K, &format!("81{input}"), 9, SUBST, end, read, &out);
     }
     // R28: cut short only where a well-formed sequence could go on.
     for (input, number) in [("C2", 51), ("DF", 51), ("E0", 51), ("E0A0", 51), ("E0BF", 51), ("E1", 51), ("E180",
@@ -1732,9 +1804,10 @@ fn conversions(l: &mut List) {
         l.from(&format!("well-formed {input}"), K, input, 9, SUBST, 0, read, "3F");
     }
     let empty_row = mbcs(3, "\\x30", &["30, 81:1, 82:2", "", "40:1"], &["<U0030> \\x30"]);
-    for (input, number, read, out) in [("81", 51, 0, ""), ("3081", 51, 1, "30"), ("8140", 52, 0, ""), ("82", 51,
-        0, ""), ("8240", 51, 0, ""), ("824040", 52, 0, ""), ("8241", 52, 0, "")] {
-        l.to(&format!("R28: empty row, {input}"), &empty_row, input, 9, SUBST, number, read, out);
+    for (input, number, length, read, out) in [("81", 51, 0, 0, ""), ("3081", 51, 0, 1, "30"), ("8140", 52, 2, 0, ""),
+        ("82", 51, 0, 0, ""), ("8240", 51, 0, 0, ""), ("824040", 52, 3, 0, ""), ("8241", 52, 2, 0, "")] {
+        let end = End { number, length };
+        l.to(&format!("R28: empty row, {input}"), &empty_row, input, 9, SUBST, end, read, out);
     }
     // One to four bytes a code and a character.
     let rows = ["30-3f, 81:1", "40-4f.p, 42:2", "50-5f.p, 52:3", "60-6f.p"];
@@ -1748,7 +1821,7 @@ fn conversions(l: &mut List) {
     l.from("subchar of four bytes", &four, "42", 4, SUBST, 0, 1, "8142526F");
     l.from("subchar of four bytes, space 3", &four, "42", 3, SUBST, 50, 0, "");
     l.to("four bytes cut", &four, "814252", 9, SUBST, 51, 0, "");
-    l.to("four bytes broken", &four, "81425299", 9, SUBST, 52, 0, "");
+    l.to("four bytes broken", &four, "81425299", 9, SUBST, illegal(4), 0, "");
     l.to("four bytes unassigned", &four, "81425262", 9, SUBST, 0, 4, "EFBFBD");
     // R29 and the substitutes.
     let rows = ["30-3f, 90.u, 81:1", "40, 80.u"];
@@ -1811,8 +1884,10 @@ fn conversions(l: &mut List) {
                 Err(e) if e.error_len().is_none() => (51, e.valid_up_to()),
                 Err(e) => (52, e.valid_up_to()),
             };
-            let got = s.from_unicode(&record, &memory, &input, &mut [0; 16], Scheme::Utf8, false, true);
-            equal(&format!("{input:02x?}"), (got.number, got.read), (number, read as u64))?;
+            let got = s.from_unicode(&record, &memory, &input, &mut [0; 16], Scheme::Utf8, SUBST);
+            let length = if number == 52 { 1 } else { 0 };
+            equal(&format!("{input:02x?}"), (got.number, got.read, got.length), (number, read as u64, length))?;
+            skips_as_std(s, &record, &memory, &input)?;
         }
         Ok(())
     });
@@ -1821,8 +1896,8 @@ fn conversions(l: &mut List) {
         let (record, memory) = is_accepted(s, K.as_bytes())?;
         let input = b"\x81\x7c".repeat(2048);
         let mut output = old_bytes(6144 + 7);
-        let got = s.to_unicode(&record, &memory, &input, &mut output, Scheme::Utf8, false);
-        equal("answer", got, Piped { number: 0, read: 4096, written: 6144 })?;
+        let got = s.to_unicode(&record, &memory, &input, &mut output, Scheme::Utf8, STRICT);
+        equal("answer", got, Piped { number: 0, read: 4096, written: 6144, length: 0 })?;
         let mut want = old_bytes(6144 + 7);
         want[..6144].copy_from_slice(&b"\xe2\x88\x92".repeat(2048));
         equal_slices("output", &output, &want)
@@ -1866,7 +1941,7 @@ fn utf32_k(l: &mut List) {
     for (scheme, mark) in [(BE, ""), (LE, ""), (PLAIN, "0000FEFF")] {
         for (set, how) in [(STRICT, "strict"), (SUBST, "substitute")] {
             l.to_in(scheme, &format!("case 4, 81, {how}"), K, "81", 9, set, 51, 0, mark);
-            l.to_in(scheme, &format!("case 4, 81 2D 33, {how}"), K, "812D33", 9, set, 52, 0, mark);
+            l.to_in(scheme, &format!("case 4, 81 2D 33, {how}"), K, "812D33", 9, set, illegal(1), 0, mark);
             l.to_in(scheme, &format!("case 4, empty, {how}"), K, "", 9, set, 0, 0, mark);
         }
         l.to_in(scheme, "case 5, strict", K, "8180", 9, STRICT, 53, 0, mark);
@@ -2070,7 +2145,7 @@ fn utf32_values(l: &mut List) {
                 for d in [0x00, 0x33, 0x7f, 0xff] {
                     let number = if char::from_u32(u32::from_be_bytes([a, b, c, d])).is_some() { 0 } else { 52 };
                     for (scheme, input) in [(BE, [a, b, c, d]), (LE, [d, c, b, a])] {
-                        let got = s.from_unicode(&record, &memory, &input, &mut [0; 4], scheme, false, true);
+                        let got = s.from_unicode(&record, &memory, &input, &mut [0; 4], scheme, SUBST);
                         equal(&format!("{} {input:02x?}", scheme.name()), got.number, number)?;
                     }
                 }
@@ -2082,8 +2157,13 @@ fn utf32_values(l: &mut List) {
         let (record, memory) = is_accepted(s, K.as_bytes())?;
         for (c, d) in (0xd8..=0xdf).flat_map(|c| (0..=255).map(move |d| (c, d))) {
             for (scheme, input) in [(BE, [0, 0, c, d]), (LE, [d, c, 0, 0])] {
-                let got = s.from_unicode(&record, &memory, &input, &mut [0; 4], scheme, false, true);
-                equal(&format!("{} {input:02x?}", scheme.name()), got, Piped { number: 52, read: 0, written: 0 })?;
+                let what = format!("{} {input:02x?}", scheme.name());
+                let got = s.from_unicode(&record, &memory, &input, &mut [0; 4], scheme, SUBST);
+                equal(&what, got, Piped { number: 52, read: 0, written: 0, length: 4 })?;
+                let mut output = [0; 4];
+                let got = s.from_unicode(&record, &memory, &input, &mut output, scheme, SKIP);
+                equal(&what, got, Piped { number: 0, read: 4, written: 1, length: 0 })?;
+                equal(&what, output, [0x3f, 0, 0, 0])?;
             }
         }
         Ok(())
@@ -2105,9 +2185,9 @@ fn utf32_values(l: &mut List) {
                 });
             }
             let mut output = vec![0; want.len()];
-            let got = s.from_unicode(&record, &memory, &input, &mut output, scheme, false, true);
+            let got = s.from_unicode(&record, &memory, &input, &mut output, scheme, SUBST);
             let read = 4 * 1_112_064 + hex(mark).len() as u64;
-            equal("answer", got, Piped { number: 0, read, written: 1_112_065 })?;
+            equal("answer", got, Piped { number: 0, read, written: 1_112_065, length: 0 })?;
             equal_slices("output", &output, &want)
         });
     }
@@ -2126,7 +2206,7 @@ fn utf32_spaces(l: &mut List) {
         }
         l.to_in(scheme, "no space, no input", K, "", 0, STRICT, 0, 0, "");
         l.to_in(scheme, "51 before 50", K, "81", 0, SUBST, 51, 0, "");
-        l.to_in(scheme, "52 before 50", K, "FF", 0, SUBST, 52, 0, "");
+        l.to_in(scheme, "52 before 50", K, "FF", 0, SUBST, illegal(1), 0, "");
         l.to_in(scheme, "53 before 50", K, "3F", 0, STRICT, 53, 0, "");
         l.to_in(scheme, "50 when substituted", K, "3F", 3, SUBST, 50, 0, "");
     }
@@ -2140,27 +2220,32 @@ fn utf32_spaces(l: &mut List) {
         l.to_in(PLAIN, &format!("space {space}"), K, "817C33", space, STRICT, number, read, out);
     }
     // S1: without room for the mark 50, whatever the input; with it, what the input gives.
-    for (input, how, set, number) in [
-        ("", "empty", STRICT, 0),
-        ("81", "cut short", SUBST, 51),
-        ("81", "cut short, strict", STRICT, 51),
-        ("812D33", "illegal", SUBST, 52),
-        ("FF", "illegal at once", SUBST, 52),
-        ("3F", "unassigned, strict", STRICT, 53),
-        ("8180", "ended by u, strict", STRICT, 53),
-        ("3F", "unassigned, substituted", SUBST, 50),
-        ("33", "assigned", STRICT, 50),
+    for (input, how, set, number, length) in [
+        ("", "empty", STRICT, 0, 0),
+        ("81", "cut short", SUBST, 51, 0),
+        ("81", "cut short, strict", STRICT, 51, 0),
+        ("812D33", "illegal", SUBST, 52, 1),
+        ("81FF33", "illegal with the byte that broke it", SUBST, 52, 2),
+        ("FF", "illegal at once", SUBST, 52, 1),
+        ("3F", "unassigned, strict", STRICT, 53, 0),
+        ("8180", "ended by u, strict", STRICT, 53, 0),
+        ("3F", "unassigned, substituted", SUBST, 50, 0),
+        ("33", "assigned", STRICT, 50, 0),
+        ("812D33", "illegal and skipped", SKIP, 50, 0),
+        ("FF", "illegal at once and skipped", SKIP, 50, 0),
+        ("81", "cut short, skipping", SKIP, 51, 0),
     ] {
         for space in 0..=3 {
             l.to_in(PLAIN, &format!("S1: {how}, space {space}"), K, input, space, set, 50, 0, "");
         }
-        l.to_in(PLAIN, &format!("S1: {how}, space 4"), K, input, 4, set, number, 0, "0000FEFF");
+        let end = End { number, length };
+        l.to_in(PLAIN, &format!("S1: {how}, space 4"), K, input, 4, set, end, 0, "0000FEFF");
     }
     l.to_in(PLAIN, "mark and one character, space 7", K, "33", 7, STRICT, 50, 0, "0000FEFF");
     l.to_in(PLAIN, "mark and one character, space 8", K, "33", 8, STRICT, 0, 1, "0000FEFF 00000033");
     l.to_in(PLAIN, "mark and a substitute, space 7", K, "3F", 7, SUBST, 50, 0, "0000FEFF");
     l.to_in(PLAIN, "mark and a substitute, space 8", K, "3F", 8, SUBST, 0, 1, "0000FEFF 0000FFFD");
-    l.to_in(PLAIN, "a stop behind what fits", K, "33FF", 8, STRICT, 52, 1, "0000FEFF 00000033");
+    l.to_in(PLAIN, "a stop behind what fits", K, "33FF", 8, STRICT, illegal(1), 1, "0000FEFF 00000033");
     l.to_in(PLAIN, "50 at the first place, 52 at the second", K, "33FF", 7, STRICT, 50, 0, "0000FEFF");
     for (scheme, mark, input) in [
         (BE, 0, "00002212 00000033"),
@@ -2246,7 +2331,7 @@ fn utf32_settings(l: &mut List) {
     l.from_in(BE, "subchar of four bytes", &four, "00000042", 4, SUBST, 0, 4, "8142526F");
     l.from_in(BE, "subchar of four bytes, space 3", &four, "00000042", 3, SUBST, 50, 0, "");
     l.to_in(BE, "four bytes cut", &four, "814252", 9, SUBST, 51, 0, "");
-    l.to_in(BE, "four bytes broken", &four, "81425299", 9, SUBST, 52, 0, "");
+    l.to_in(BE, "four bytes broken", &four, "81425299", 9, SUBST, illegal(4), 0, "");
     l.to_in(BE, "four bytes unassigned", &four, "81425262", 9, SUBST, 0, 4, "0000FFFD");
 }
 
@@ -2259,11 +2344,17 @@ fn utf32_long(l: &mut List) {
             (PLAIN, "0000FEFF", "00000033", "00002212"),
         ] {
             let before = |one: &str| one.repeat(n as usize - 2);
-            for (code, number, last) in [("817C", 0, minus), ("817D", 0, minus), ("8180", 53, ""), ("812D", 52, "")] {
+            for (code, number, length, last) in [
+                ("817C", 0, 0, minus),
+                ("817D", 0, 0, minus),
+                ("8180", 53, 0, ""),
+                ("812D", 52, 1, ""),
+                ("81FF", 52, 2, ""),
+            ] {
                 let read = if number == 0 { n } else { n - 2 };
                 let (input, out) = (before("33") + code, mark.to_string() + &before(three) + last);
                 let name = format!("{n} bytes, the last two {code}");
-                l.to_in(scheme, &name, K, &input, 1999, STRICT, number, read, &out);
+                l.to_in(scheme, &name, K, &input, 1999, STRICT, End { number, length }, read, &out);
             }
         }
         for (scheme, mark, three, [minus, wide, none]) in [
@@ -2296,6 +2387,471 @@ fn utf32_long(l: &mut List) {
         l.from_in(scheme, "4,096 bytes", K, &chars, 4096 + 7, STRICT, 0, bytes as u64, &codes);
         let stop = bytes as u64 - 4;
         l.from_in(scheme, "4,096 bytes, a place too few", K, &chars, 4095, STRICT, 50, stop, &codes[..2 * 4094]);
+    }
+}
+
+/// K: a byte that breaks a sequence and could begin one is no part of it (S5, S8).
+fn skip_k(l: &mut List) {
+    // The cable's own: a stray byte, then -3.
+    for (set, how) in [(STRICT, "strict"), (SUBST, "substitute")] {
+        l.to(&format!("81 2D 33, {how}"), K, "812D33", 9, set, illegal(1), 0, "");
+        l.to(&format!("81 2D 33, {how}"), K, "812D33", 9, skipping(set), 0, 3, "EFBFBD 2D 33");
+        l.to(&format!("81 FF 33, {how}"), K, "81FF33", 9, set, illegal(2), 0, "");
+        l.to(&format!("81 FF 33, {how}"), K, "81FF33", 9, skipping(set), 0, 3, "EFBFBD 33");
+        l.to(&format!("81 81, {how}"), K, "8181", 9, set, illegal(1), 0, "");
+        l.to(&format!("81 81, {how}"), K, "8181", 9, skipping(set), 51, 1, "EFBFBD");
+        l.to(&format!("FF, {how}"), K, "FF", 9, set, illegal(1), 0, "");
+        l.to(&format!("FF, {how}"), K, "FF", 9, skipping(set), 0, 1, "EFBFBD");
+        l.to(&format!("81, {how}"), K, "81", 9, set, 51, 0, "");
+        l.to(&format!("81, {how}"), K, "81", 9, skipping(set), 51, 0, "");
+        l.to(&format!("empty, {how}"), K, "", 9, skipping(set), 0, 0, "");
+        l.to(&format!("81 7C 33, {how}"), K, "817C33", 9, skipping(set), 0, 3, "E28892 33");
+    }
+    // Strict and unassigned is 53 all the same.
+    l.to("81 80, strict", K, "8180", 9, SKIP, 53, 0, "");
+    l.to("81 80, substitute", K, "8180", 9, SKIP_SUBST, 0, 2, "EFBFBD");
+    l.to("FF 81 80, strict", K, "FF8180", 9, SKIP, 53, 1, "EFBFBD");
+    l.to("FF 81 80, substitute", K, "FF8180", 9, SKIP_SUBST, 0, 3, "EFBFBD EFBFBD");
+    l.to("81 3F, strict: the 3F is unassigned", K, "813F", 9, SKIP, 53, 1, "EFBFBD");
+    l.to("81 3F, substitute", K, "813F", 9, SKIP_SUBST, 0, 2, "EFBFBD EFBFBD");
+    l.to("fallback is not asked towards Unicode", K, "812D817C", 12, SKIP_FALL_SUBST, 0, 4, "EFBFBD 2D E28892");
+    // Several, one after the other and among codes.
+    for (input, number, read, out) in [
+        ("FFFFFF", 0, 3, "EFBFBD EFBFBD EFBFBD"),
+        ("81FFFF", 0, 3, "EFBFBD EFBFBD"),
+        ("FF81", 51, 1, "EFBFBD"),
+        ("3381", 51, 1, "33"),
+        ("8181817C", 0, 4, "EFBFBD EFBFBD E28892"),
+        ("818181", 51, 2, "EFBFBD EFBFBD"),
+        ("81812D", 0, 3, "EFBFBD EFBFBD 2D"),
+        ("8181FF", 0, 3, "EFBFBD EFBFBD"),
+        ("81FF81", 51, 2, "EFBFBD"),
+        ("81FF7C", 0, 3, "EFBFBD EFBFBD"),
+        ("7C33", 0, 2, "EFBFBD 33"),
+        ("817C7C33", 0, 4, "E28892 EFBFBD 33"),
+        ("81817C33", 0, 4, "EFBFBD E28892 33"),
+        ("33812D33", 0, 4, "33 EFBFBD 2D 33"),
+        ("2D812D8130812D", 0, 7, "2D EFBFBD 2D EFBFBD 30 EFBFBD 2D"),
+        ("812D", 0, 2, "EFBFBD 2D"),
+        ("8133", 0, 2, "EFBFBD 33"),
+        ("8100817C", 0, 4, "EFBFBD E28892"),
+        ("8180812D81", 51, 4, "EFBFBD EFBFBD 2D"),
+    ] {
+        l.to(input, K, input, 40, SKIP_SUBST, number, read, out);
+    }
+    // Every byte behind 81, and then 33.
+    for b in 0..=255u32 {
+        let (length, out) = match b {
+            0x7c | 0x7d => (0, "E28892".to_string()),
+            0x80 => (0, "EFBFBD".to_string()),
+            0x2d | 0x30 | 0x33 => (1, format!("EFBFBD {b:02X}")),
+            // 3F is unassigned; 81 is broken by the 33.
+            0x3f | 0x81 => (1, "EFBFBD EFBFBD".to_string()),
+            _ => (2, "EFBFBD".to_string()),
+        };
+        let input = format!("81{b:02X}33");
+        l.to(&input, K, &input, 40, SKIP_SUBST, 0, 3, &format!("{out} 33"));
+        if length > 0 {
+            l.to(&input, K, &input, 40, SUBST, illegal(length), 0, "");
+        }
+        let (number, read, out) = match b {
+            0x2d | 0x30 | 0x33 => (0, 1, format!("{b:02X}")),
+            0x3f => (53, 0, String::new()),
+            0x81 => (51, 0, String::new()),
+            _ => (0, 1, "EFBFBD".to_string()),
+        };
+        l.to(&format!("byte {b:02X}"), K, &format!("{b:02X}"), 40, SKIP, number, read, &out);
+    }
+}
+
+/// What the byte that breaks a sequence would be in row 0, and how long the
+/// sequence is (S5).
+fn skip_cuts(l: &mut List) {
+    // Row 0 has each kind: ends, `p`, `u`, an `i` that is written, leading on,
+    // leading on to an empty row; 99 and others are not named.
+    let rows = ["30, 31.p, 32.u, 33.i, 81:1, 82:2", "40", ""];
+    let t = mbcs(2, "\\x30", &rows, &["<U0030> \\x30", "<U0031> \\x31", "<U0041> \\x81\\x40"]);
+    for (input, length, number, read, out) in [
+        ("8130", 1, 0, 2, "EFBFBD 30"),
+        ("8131", 1, 0, 2, "EFBFBD 31"),
+        ("8132", 1, 53, 1, "EFBFBD"),
+        ("8133", 2, 0, 2, "EFBFBD"),
+        ("8199", 2, 0, 2, "EFBFBD"),
+        ("8181", 1, 51, 1, "EFBFBD"),
+        ("818140", 1, 0, 3, "EFBFBD 41"),
+        ("8182", 1, 51, 1, "EFBFBD"),
+        ("818230", 1, 0, 3, "EFBFBD EFBFBD 30"),
+        ("818232", 1, 53, 2, "EFBFBD EFBFBD"),
+        ("818299", 1, 0, 3, "EFBFBD EFBFBD"),
+        ("8230", 1, 0, 2, "EFBFBD 30"),
+        ("8232", 1, 53, 1, "EFBFBD"),
+        ("8233", 2, 0, 2, "EFBFBD"),
+        ("8240", 2, 0, 2, "EFBFBD"),
+        ("8281", 1, 51, 1, "EFBFBD"),
+        ("828140", 1, 0, 3, "EFBFBD 41"),
+        ("8282", 1, 51, 1, "EFBFBD"),
+        ("828230", 1, 0, 3, "EFBFBD EFBFBD 30"),
+        ("33", 1, 0, 1, "EFBFBD"),
+        ("4030", 1, 0, 2, "EFBFBD 30"),
+        ("9930", 1, 0, 2, "EFBFBD 30"),
+    ] {
+        l.to(&format!("cut of {input}"), &t, input, 20, STRICT, illegal(length), 0, "");
+        l.to(&format!("cut of {input}"), &t, input, 20, SKIP, number, read, out);
+    }
+    l.to("81 32, substituted", &t, "8132", 20, SKIP_SUBST, 0, 2, "EFBFBD EFBFBD");
+    l.to("82 alone", &t, "82", 20, SKIP, 51, 0, "");
+    // Codes of four bytes. 42 and 52 could begin codes, but they led on: only the
+    // byte that breaks a sequence is looked at.
+    let rows = ["30, 42, 52, 81:1", "42:2", "52:3", "60"];
+    let lines = ["<U0030> \\x30", "<U0042> \\x42", "<U0052> \\x52", "<U2603> \\x81\\x42\\x52\\x60"];
+    let four = mbcs(4, "\\x81\\x42\\x52\\x60", &rows, &lines);
+    for (input, length, number, read, out) in [
+        ("8130", 1, 0, 2, "EFBFBD 30"),
+        ("8199", 2, 0, 2, "EFBFBD"),
+        ("8160", 2, 0, 2, "EFBFBD"),
+        ("8152", 1, 0, 2, "EFBFBD 52"),
+        ("814230", 2, 0, 3, "EFBFBD 30"),
+        ("814242", 2, 0, 3, "EFBFBD 42"),
+        ("814299", 3, 0, 3, "EFBFBD"),
+        ("814281", 2, 51, 2, "EFBFBD"),
+        ("81425230", 3, 0, 4, "EFBFBD 30"),
+        ("81425242", 3, 0, 4, "EFBFBD 42"),
+        ("81425252", 3, 0, 4, "EFBFBD 52"),
+        ("81425299", 4, 0, 4, "EFBFBD"),
+        ("8142529942", 4, 0, 5, "EFBFBD 42"),
+        ("81425281", 3, 51, 3, "EFBFBD"),
+        ("81425281425260", 3, 0, 7, "EFBFBD E29883"),
+        ("814281425260", 2, 0, 6, "EFBFBD E29883"),
+        ("8181425260", 1, 0, 5, "EFBFBD E29883"),
+        ("818142", 1, 51, 1, "EFBFBD"),
+        ("81428142528142", 2, 51, 5, "EFBFBD EFBFBD"),
+        ("99425260", 1, 0, 4, "EFBFBD 42 52 EFBFBD"),
+    ] {
+        l.to(&format!("four bytes, {input}"), &four, input, 20, STRICT, illegal(length), 0, "");
+        l.to(&format!("four bytes, {input}"), &four, input, 20, SKIP, number, read, out);
+    }
+    for input in ["81", "8142", "814252"] {
+        l.to(&format!("four bytes, {input}"), &four, input, 20, SKIP, 51, 0, "");
+        l.to(&format!("four bytes, 30 {input}"), &four, &format!("30{input}"), 20, SKIP, 51, 1, "30");
+    }
+    // No byte is illegal in row 0: a sequence always ends before what breaks it.
+    let all = mbcs(3, "\\x00", &["0-7f, 80-ff:1", "0-ff.i, 40:2", "41"], &["<U0040> \\x40", "<U0042> \\x42"]);
+    for (input, length, number, read, out) in [
+        ("80FF", 1, 51, 1, "EFBFBD"),
+        ("8042", 1, 0, 2, "EFBFBD 42"),
+        ("804042", 2, 0, 3, "EFBFBD 42"),
+        ("8040FF42", 2, 0, 4, "EFBFBD EFBFBD 42"),
+        ("804040", 2, 0, 3, "EFBFBD 40"),
+    ] {
+        l.to(&format!("nothing illegal in row 0, {input}"), &all, input, 20, STRICT, illegal(length), 0, "");
+        l.to(&format!("nothing illegal in row 0, {input}"), &all, input, 20, SKIP, number, read, out);
+    }
+}
+
+/// U+FFFD, never U+001A; subchar, never subchar1; in the strict setting too (S7).
+fn skip_settings(l: &mut List) {
+    let rows = ["30-3f, 90.u, 81:1", "40, 80.u"];
+    let sub = "<subchar> \\x81\\x40\n<subchar1> \\x3F";
+    let lines = ["<U0030> \\x30 |0", "<U0031> \\x31 |1", "<U0032> \\x3F |2", "<U0033> \\x33 |3",
+        "<U0034> \\x30 |1"];
+    let t = text(1, 2, "MBCS", sub, &rows, &lines);
+    for (input, set, number, read, out) in [
+        ("20", SKIP, 0, 1, "EFBFBD"),
+        ("20", SKIP_SUBST, 0, 1, "EFBFBD"),
+        ("2035", SKIP_SUBST, 0, 2, "EFBFBD 1A"),
+        ("3520", SKIP_SUBST, 0, 2, "1A EFBFBD"),
+        ("2035", SKIP, 53, 1, "EFBFBD"),
+        ("81FF", SKIP_SUBST, 0, 2, "EFBFBD"),
+        ("8135", SKIP_SUBST, 0, 2, "EFBFBD 1A"),
+        ("8135", SKIP, 53, 1, "EFBFBD"),
+        ("8190", SKIP_SUBST, 0, 2, "EFBFBD 1A"),
+        ("8190", SKIP, 53, 1, "EFBFBD"),
+        ("8130", SKIP, 0, 2, "EFBFBD 30"),
+        ("818180", SKIP_SUBST, 0, 3, "EFBFBD EFBFBD"),
+        ("818180", SKIP, 53, 1, "EFBFBD"),
+    ] {
+        let how = format!("subchar1, {input}, substitute {}", set.substitute);
+        l.to(&how, &t, input, 9, set, number, read, out);
+    }
+    for (scheme, out) in [
+        (BE, "0000FFFD 0000001A"),
+        (LE, "FDFF0000 1A000000"),
+        (PLAIN, "0000FEFF 0000FFFD 0000001A"),
+    ] {
+        l.to_in(scheme, "subchar1, 20 35", &t, "2035", 15, SKIP_SUBST, 0, 2, out);
+        l.to_in(scheme, "subchar1, 81 90", &t, "8190", 15, SKIP_SUBST, 0, 2, out);
+    }
+    for (input, set, number, read, out) in [
+        ("FF", SKIP, 0, 1, "8140"),
+        ("FF", SKIP_SUBST, 0, 1, "8140"),
+        ("FF32FF", SKIP_SUBST, 0, 3, "8140 3F 8140"),
+        ("FF32", SKIP, 53, 1, "8140"),
+        ("FF32", SKIP_FALL, 53, 1, "8140"),
+        ("FF31", SKIP, 53, 1, "8140"),
+        ("FF31", SKIP_SUBST, 0, 2, "8140 8140"),
+        ("FF31", SKIP_FALL, 0, 2, "8140 31"),
+        ("FF3134", SKIP_FALL_SUBST, 0, 3, "8140 31 30"),
+        ("C230", SKIP, 0, 2, "8140 30"),
+    ] {
+        let how = format!("subchar1, {input}, fallback {}, substitute {}", set.fallback, set.substitute);
+        l.from(&how, &t, input, 9, set, number, read, out);
+    }
+    for (scheme, input) in [
+        (BE, "0000D800 00000032 0000D800"),
+        (LE, "00D80000 32000000 00D80000"),
+        (PLAIN, "0000D800 00000032 0000D800"),
+    ] {
+        l.from_in(scheme, "subchar1, a surrogate, U+0032", &t, input, 9, SKIP_SUBST, 0, 12, "8140 3F 8140");
+        l.from_in(scheme, "subchar1, a surrogate, U+0032, strict", &t, input, 9, SKIP, 53, 4, "8140");
+    }
+}
+
+/// Where what stands for a skipped sequence does not fit: 50 before it, length 0.
+fn skip_spaces(l: &mut List) {
+    for (space, number, read, out) in [(0, 50, 0, ""), (1, 50, 0, ""), (2, 50, 0, ""), (3, 0, 1, "EFBFBD")] {
+        l.to(&format!("FF, space {space}"), K, "FF", space, SKIP, number, read, out);
+    }
+    for (space, number, read, out) in [(2, 50, 0, ""), (3, 50, 1, "EFBFBD"), (4, 0, 2, "EFBFBD 2D")] {
+        l.to(&format!("81 2D, space {space}"), K, "812D", space, SKIP, number, read, out);
+    }
+    for (space, number, read, out) in [(0, 50, 0, ""), (1, 50, 1, "33"), (3, 50, 1, "33"), (4, 50, 3, "33 EFBFBD"),
+        (5, 0, 4, "33 EFBFBD 33")] {
+        l.to(&format!("33 81 FF 33, space {space}"), K, "3381FF33", space, SKIP, number, read, out);
+    }
+    for (space, number, read, out) in [(5, 50, 1, "EFBFBD"), (6, 50, 2, "EFBFBD EFBFBD"), (9, 0, 3,
+        "EFBFBD EFBFBD EFBFBD")] {
+        l.to(&format!("FF FF FF, space {space}"), K, "FFFFFF", space, SKIP, number, read, out);
+    }
+    // 51 and 53 go before 50, 50 at an earlier place before both.
+    l.to("51 before 50", K, "81", 0, SKIP, 51, 0, "");
+    l.to("53 before 50", K, "3F", 0, SKIP, 53, 0, "");
+    l.to("50 at the first place, 51 at the second", K, "FF81", 2, SKIP, 50, 0, "");
+    l.to("51 behind what fits", K, "FF81", 3, SKIP, 51, 1, "EFBFBD");
+    l.to("53 behind what fits", K, "FF3F", 3, SKIP, 53, 1, "EFBFBD");
+    for (scheme, one, two) in [(BE, "0000FFFD", "0000FFFD 0000002D"), (LE, "FDFF0000", "FDFF0000 2D000000")] {
+        for space in 0..=9 {
+            let (number, read, out) = match space {
+                0..=3 => (50, 0, ""),
+                4..=7 => (50, 1, one),
+                _ => (0, 2, two),
+            };
+            l.to_in(scheme, &format!("81 2D, space {space}"), K, "812D", space, SKIP, number, read, out);
+        }
+    }
+    for space in 0..=13 {
+        let (number, read, out) = match space {
+            0..=3 => (50, 0, ""),
+            4..=7 => (50, 0, "0000FEFF"),
+            8..=11 => (50, 2, "0000FEFF 0000FFFD"),
+            _ => (0, 3, "0000FEFF 0000FFFD 00000033"),
+        };
+        l.to_in(PLAIN, &format!("81 FF 33, space {space}"), K, "81FF33", space, SKIP, number, read, out);
+    }
+    // A subchar of four bytes.
+    let rows = ["30-3f, 81:1", "42:2", "52:3", "60-6f"];
+    let four = mbcs(4, "\\x81\\x42\\x52\\x6F", &rows, &["<U0031> \\x31"]);
+    for (space, number, read, out) in [(0, 50, 0, ""), (3, 50, 0, ""), (4, 50, 1, "8142526F"), (7, 50, 1, "8142526F"),
+        (8, 50, 2, "8142526F 8142526F"), (9, 0, 3, "8142526F 8142526F 31")] {
+        l.from(&format!("C0 AD 31, space {space}"), &four, "C0AD31", space, SKIP, number, read, out);
+    }
+    for (space, number, read, out) in [(3, 50, 0, ""), (4, 50, 4, "8142526F"), (5, 0, 8, "8142526F 31")] {
+        l.from_in(BE, &format!("a surrogate and 31, space {space}"), &four, "0000D800 00000031", space, SKIP, number,
+            read, out);
+        l.from_in(LE, &format!("a surrogate and 31, space {space}"), &four, "00D80000 31000000", space, SKIP, number,
+            read, out);
+        let marked = "FFFE0000 00D80000 31000000";
+        l.from_in(PLAIN, &format!("mark, a surrogate and 31, space {space}"), &four, marked, space, SKIP, number,
+            read + 4, out);
+    }
+    l.from("51 before 50", K, "E288", 0, SKIP, 51, 0, "");
+    l.from("53 before 50", K, "41", 0, SKIP, 53, 0, "");
+    l.from("FF, no space", K, "FF", 0, SKIP, 50, 0, "");
+    l.from("33 FF, space 1", K, "33FF", 1, SKIP, 50, 1, "33");
+    l.from("50 at the first place, 51 at the second", K, "FFE288", 0, SKIP, 50, 0, "");
+    l.from("51 behind what fits", K, "FFE288", 1, SKIP, 51, 1, "3F");
+}
+
+/// What a walk with the standard library says of a text under K, substituted
+/// and with every illegal byte skipped alone: number, bytes read, output.
+pub fn std_walk(text: &[u8]) -> (u32, u64, Vec<u8>) {
+    let (mut read, mut out) = (0, Vec::new());
+    loop {
+        let (good, error) = match std::str::from_utf8(&text[read..]) {
+            Ok(good) => (good, None),
+            Err(e) => (std::str::from_utf8(&text[read..read + e.valid_up_to()]).expect("up to there"), Some(e)),
+        };
+        for c in good.chars() {
+            match c {
+                '-' | '0' | '3' => out.push(c as u8),
+                '\u{2212}' => out.extend([0x81, 0x7c]),
+                _ => out.push(0x3f),
+            }
+        }
+        read += good.len();
+        match error.map(|e| e.error_len()) {
+            None => return (0, read as u64, out),
+            Some(None) => return (51, read as u64, out),
+            Some(Some(_)) => {
+                read += 1;
+                out.push(0x3f);
+            }
+        }
+    }
+}
+
+/// A text under K, substituted and with skipping on, gives what that walk says.
+pub fn skips_as_std(s: &dyn Subject, record: &Record, memory: &Memory, text: &[u8]) -> Result<(), String> {
+    let (number, read, out) = std_walk(text);
+    let mut output = vec![0; 2 * text.len()];
+    let got = s.from_unicode(record, memory, text, &mut output, Scheme::Utf8, SKIP_SUBST);
+    let want = Piped { number, read, written: out.len() as u64, length: 0 };
+    equal(&format!("skipping in {text:02x?}"), got, want)?;
+    equal_slices(&format!("skipping in {text:02x?}, output"), &output[..out.len()], &out)
+}
+
+/// From UTF-8 each illegal byte is skipped alone (S6).
+fn skip_utf8(l: &mut List) {
+    // What stands before the first illegal byte, then everything.
+    for (input, place, before, read, out) in [
+        ("C0AD", 0, "", 2, "3F3F"),
+        ("E28833", 0, "", 3, "3F3F33"),
+        ("EDA080", 0, "", 3, "3F3F3F"),
+        ("F4908080", 0, "", 4, "3F3F3F3F"),
+        ("FF", 0, "", 1, "3F"),
+        ("80", 0, "", 1, "3F"),
+        ("C0", 0, "", 1, "3F"),
+        ("C1BF", 0, "", 2, "3F3F"),
+        ("C233", 0, "", 2, "3F33"),
+        ("E233", 0, "", 2, "3F33"),
+        ("E0802D", 0, "", 3, "3F3F2D"),
+        ("E09F80", 0, "", 3, "3F3F3F"),
+        ("F0908033", 0, "", 4, "3F3F3F33"),
+        ("F08080AF", 0, "", 4, "3F3F3F3F"),
+        ("F5808080", 0, "", 4, "3F3F3F3F"),
+        ("F888808080", 0, "", 5, "3F3F3F3F3F"),
+        ("E2E28892", 0, "", 4, "3F 817C"),
+        ("E288E28892", 0, "", 5, "3F3F 817C"),
+        ("8892E28892", 0, "", 5, "3F3F 817C"),
+        ("E28892E28833", 3, "817C", 6, "817C 3F3F 33"),
+        ("E2889292", 3, "817C", 4, "817C 3F"),
+        ("33FF33", 1, "33", 3, "333F33"),
+    ] {
+        l.from(input, K, input, 9, STRICT, 52, place, before);
+        l.from(input, K, input, 9, SKIP, 0, read, out);
+        l.from(&format!("{input}, substitute"), K, input, 9, SKIP_SUBST, 0, read, out);
+    }
+    // Cut short stays 51, wherever it is cut.
+    for input in ["C2", "E2", "E288", "F0", "F090", "F09080"] {
+        l.from(input, K, input, 9, SKIP, 51, 0, "");
+        l.from(&format!("33 {input}"), K, &format!("33{input}"), 9, SKIP, 51, 1, "33");
+        l.from(&format!("FF {input}"), K, &format!("FF{input}"), 9, SKIP, 51, 1, "3F");
+        l.from(&format!("E2 88 {input}"), K, &format!("E288{input}"), 9, SKIP, 51, 2, "3F3F");
+    }
+    // Strict and unassigned is 53 all the same; fallback as without.
+    l.from("FF 41, strict", K, "FF41", 9, SKIP, 53, 1, "3F");
+    l.from("FF 41, substitute", K, "FF41", 9, SKIP_SUBST, 0, 2, "3F3F");
+    l.from("FF FF0D, strict", K, "FFEFBC8D", 9, SKIP, 53, 1, "3F");
+    l.from("FF FF0D, fallback", K, "FFEFBC8D", 9, SKIP_FALL, 0, 4, "3F 817C");
+    l.from("FF FF0D, fallback and substitute", K, "FFEFBC8D", 9, SKIP_FALL_SUBST, 0, 4, "3F 817C");
+    l.from("FF FFFD, substitute", K, "FFEFBFBD", 9, SKIP_SUBST, 0, 4, "3F3F");
+}
+
+/// From UTF-32 four bytes are skipped at a time, and the mark is as before.
+fn skip_utf32(l: &mut List) {
+    for (be, le) in [
+        ("0000D800", "00D80000"),
+        ("0000DBFF", "FFDB0000"),
+        ("0000DC00", "00DC0000"),
+        ("0000DFFF", "FFDF0000"),
+        ("00110000", "00001100"),
+        ("01000033", "33000001"),
+        ("80000033", "33000080"),
+        ("FFFE0000", "0000FEFF"),
+        ("FFFFFFFF", "FFFFFFFF"),
+    ] {
+        l.from_in(BE, be, K, be, 9, SKIP, 0, 4, "3F");
+        l.from_in(LE, le, K, le, 9, SKIP, 0, 4, "3F");
+        l.from_in(BE, &format!("33, {be}, 33"), K, &format!("00000033 {be} 00000033"), 9, SKIP, 0, 12, "333F33");
+        l.from_in(LE, &format!("33, {le}, 33"), K, &format!("33000000 {le} 33000000"), 9, SKIP, 0, 12, "333F33");
+        l.from_in(PLAIN, &format!("33, {be}, 33"), K, &format!("00000033 {be} 00000033"), 9, SKIP, 0, 12, "333F33");
+        for (mark, bad, three) in [("0000FEFF", be, "00000033"), ("FFFE0000", le, "33000000")] {
+            let marked = format!("{mark} {bad} {three}");
+            l.from_in(PLAIN, &marked, K, &marked, 9, STRICT, 52, 4, "");
+            l.from_in(PLAIN, &marked, K, &marked, 9, SKIP, 0, 12, "3F33");
+            l.from_in(PLAIN, &format!("{marked}, substitute"), K, &marked, 9, SKIP_SUBST, 0, 12, "3F33");
+        }
+        // One to three bytes behind it are 51.
+        for rest in ["00", "33", "0000", "FFFE", "000000", "FFFE00"] {
+            l.from_in(BE, &format!("{be}, {rest} left over"), K, &format!("{be}{rest}"), 9, SKIP, 51, 4, "3F");
+            l.from_in(LE, &format!("{le}, {rest} left over"), K, &format!("{le}{rest}"), 9, SKIP, 51, 4, "3F");
+            let marked = format!("0000FEFF {be} {rest}");
+            l.from_in(PLAIN, &format!("mark, {be}, {rest} left over"), K, &marked, 9, SKIP, 51, 8, "3F");
+        }
+    }
+    for rest in ["00", "D8", "FFFE", "00D8", "0000FE", "00D800"] {
+        for scheme in [BE, LE, PLAIN] {
+            l.from_in(scheme, &format!("{rest} left over"), K, rest, 9, SKIP, 51, 0, "");
+        }
+        l.from_in(PLAIN, &format!("mark, {rest} left over"), K, &format!("0000FEFF {rest}"), 9, SKIP, 51, 4, "");
+    }
+    // Each half of a pair is a sequence of its own.
+    l.from_in(BE, "a pair", K, "0000D83D 0000DE00", 9, SKIP, 0, 8, "3F3F");
+    l.from_in(LE, "a pair", K, "3DD80000 00DE0000", 9, SKIP, 0, 8, "3F3F");
+    l.from_in(PLAIN, "mark, a pair", K, "0000FEFF 0000D83D 0000DE00 00000033", 9, SKIP, 0, 16, "3F3F33");
+    // The mark: at the front alone, and never behind a skipped sequence.
+    for (how, input, set, number, read, out) in [
+        ("the mark alone", "0000FEFF", SKIP, 0, 4, ""),
+        ("the little-endian mark alone", "FFFE0000", SKIP, 0, 4, ""),
+        ("a mark behind a skipped sequence, strict", "0000D800 0000FEFF", SKIP, 53, 4, "3F"),
+        ("a mark behind a skipped sequence", "0000D800 0000FEFF", SKIP_SUBST, 0, 8, "3F3F"),
+        ("a little-endian mark behind one", "0000D800 FFFE0000 33000000", SKIP, 0, 12, "3F3F3F"),
+        ("no mark, little-endian text", "33000000 30000000", SKIP, 0, 8, "3F3F"),
+        ("little-endian mark, mark", "FFFE0000 0000FEFF 33000000", SKIP, 0, 12, "3F33"),
+        ("mark, little-endian mark", "0000FEFF FFFE0000 00000033", SKIP, 0, 12, "3F33"),
+        ("nearly a mark", "0100FEFF 00000033", SKIP, 0, 8, "3F33"),
+        ("the mark and a surrogate", "0000FEFF 0000D800", SKIP, 0, 8, "3F"),
+    ] {
+        l.from_in(PLAIN, how, K, input, 9, set, number, read, out);
+    }
+    l.from_in(PLAIN, "mark, a surrogate, no space", K, "0000FEFF 0000D800", 0, SKIP, 50, 4, "");
+    // Written: the mark first, then what stands for the skipped sequence.
+    for (scheme, input, out) in [
+        (BE, "812D33", "0000FFFD 0000002D 00000033"),
+        (LE, "812D33", "FDFF0000 2D000000 33000000"),
+        (PLAIN, "812D33", "0000FEFF 0000FFFD 0000002D 00000033"),
+        (BE, "81FF33", "0000FFFD 00000033"),
+        (LE, "81FF33", "FDFF0000 33000000"),
+        (PLAIN, "81FF33", "0000FEFF 0000FFFD 00000033"),
+    ] {
+        l.to_in(scheme, input, K, input, 19, SKIP, 0, 3, out);
+        let (mark, length) = (if scheme == PLAIN { "0000FEFF" } else { "" }, if input == "812D33" { 1 } else { 2 });
+        l.to_in(scheme, input, K, input, 19, STRICT, illegal(length), 0, mark);
+    }
+    l.to_in(BE, "81 81", K, "8181", 9, SKIP, 51, 1, "0000FFFD");
+    l.to_in(LE, "81 81", K, "8181", 9, SKIP, 51, 1, "FDFF0000");
+    l.to_in(PLAIN, "81 81", K, "8181", 9, SKIP, 51, 1, "0000FEFF 0000FFFD");
+    l.to_in(PLAIN, "81 80, strict", K, "8180", 9, SKIP, 53, 0, "0000FEFF");
+}
+
+/// Long inputs, where places of lines are kept at hand: what is skipped changes
+/// nothing of what stands around it.
+fn skip_long(l: &mut List) {
+    for n in [20, 31, 32, 33, 200] {
+        let (codes, chars) = ("33817C".repeat(n), "33E28892".repeat(n));
+        let read = 6 * n as u64;
+        for (bad, length, skipped, out) in
+            [("FF", 1, 1, "EFBFBD"), ("81", 1, 1, "EFBFBD"), ("8100", 2, 2, "EFBFBD"), ("812D", 1, 2, "EFBFBD 2D")]
+        {
+            let (input, out) = (format!("{codes}{bad}{codes}"), format!("{chars}{out}{chars}"));
+            l.to(&format!("{bad} among {n}"), K, &input, 4000, STRICT, illegal(length), read / 2, &chars);
+            l.to(&format!("{bad} among {n}"), K, &input, 4000, SKIP, 0, read + skipped, &out);
+        }
+        let read = 8 * n as u64;
+        for (bad, skipped, out) in [("FF", 1, "3F"), ("E288", 2, "3F3F"), ("EDA080", 3, "3F3F3F")] {
+            let (input, out) = (format!("{chars}{bad}{chars}"), format!("{codes}{out}{codes}"));
+            l.from(&format!("{bad} among {n}"), K, &input, 4000, STRICT, 52, read / 2, &codes);
+            l.from(&format!("{bad} among {n}"), K, &input, 4000, SKIP, 0, read + skipped, &out);
+        }
     }
 }
 

@@ -325,6 +325,37 @@ pub fn full_table(rng: &mut Rng, n: usize) -> Made {
     Made { table, rows, sbcs: false, implied: false }
 }
 
+/// A table of a dozen bytes and codes of up to `max`, two or more: row 0 has every
+/// kind of cell, and what breaks a sequence can often begin one.
+pub fn narrow_table(rng: &mut Rng, max: usize) -> Made {
+    let mut bytes: Vec<u8> = (0..=255).collect();
+    rng.shuffle(&mut bytes);
+    let few = &bytes[..12];
+    // Each row leads to the next one or to the last, which is empty.
+    let empty = Cell::Lead(max as u16);
+    let mut rows = Vec::new();
+    for r in 0..max {
+        let next = if r + 1 < max { Cell::Lead(r as u16 + 1) } else { Cell::Illegal };
+        let mut kinds = vec![Cell::Bmp, Cell::Any, Cell::Unassigned, next, Cell::Illegal];
+        if r + 1 < max {
+            kinds.push(empty);
+        }
+        let cell = |i: usize, rng: &mut Rng| match (r, i) {
+            (0, _) if i < kinds.len() => kinds[i],
+            _ if rng.one_in(3) => next,
+            _ => *rng.pick(&kinds),
+        };
+        rows.push(few.iter().enumerate().map(|(i, &b)| Entry { from: b, to: b, cell: cell(i, rng) }).collect());
+    }
+    rows.push(Vec::new());
+    let meant: Vec<Row> = rows.iter().map(|r: &Vec<Entry>| cells(r)).collect();
+    let subchar = random_code(rng, &meant).unwrap_or(vec![few[0]]);
+    let subchar1 = if rng.one_in(2) { Some(few[1]) } else { None };
+    let mut table = Table { rows: meant, lines: Vec::new(), min: 1, max: max as u32, subchar, subchar1 };
+    random_lines(rng, &mut table, 30);
+    Made { table, rows, sbcs: false, implied: false }
+}
+
 // ---------------------------------------------------------------------------
 // Texts
 // ---------------------------------------------------------------------------
@@ -1770,7 +1801,7 @@ pub fn character(scheme: Scheme, value: u32) -> Vec<u8> {
 
 /// The mark of big-endian text, and of little-endian text.
 pub const MARK: [u8; 4] = [0x00, 0x00, 0xfe, 0xff];
-const LITTLE_MARK: [u8; 4] = [0xff, 0xfe, 0x00, 0x00];
+pub const LITTLE_MARK: [u8; 4] = [0xff, 0xfe, 0x00, 0x00];
 
 /// A front for a text, and how its characters have to stand behind it.
 pub fn front(rng: &mut Rng, scheme: Scheme) -> (Vec<u8>, Scheme) {
@@ -1782,20 +1813,16 @@ pub fn front(rng: &mut Rng, scheme: Scheme) -> (Vec<u8>, Scheme) {
     }
 }
 
-/// Bytes at which a frame must stop, and the number; 53 is for the strict
-/// setting. None at times.
+/// Bytes at which a frame must stop, with skipping too, and the number; 53 is for
+/// the strict setting. None at times.
 pub fn stop_in_frame(rng: &mut Rng, t: &Table) -> Option<(Vec<u8>, u32)> {
     let mut code = random_code(rng, &t.rows)?;
-    match rng.below(6) {
+    match rng.below(5) {
         0 if code.len() > 1 => {
             code.truncate(rng.range(1, code.len() - 1));
             Some((code, 51))
         }
         1 => {
-            let illegal: Vec<u8> = (0..=255).filter(|&b| t.rows[0][b as usize] == Cell::Illegal).collect();
-            (!illegal.is_empty()).then(|| (vec![*rng.pick(&illegal), rng.byte()], 52))
-        }
-        2 => {
             let read = t.lines.iter().any(|l| oracle::is_read(l.kind) && l.code == code);
             (!read).then_some((code, 53))
         }
@@ -1805,21 +1832,142 @@ pub fn stop_in_frame(rng: &mut Rng, t: &Table) -> Option<(Vec<u8>, u32)> {
 
 /// The same for a text in UTF-8, UTF-32BE or UTF-32LE.
 pub fn stop_in_text(rng: &mut Rng, t: &Table, way: Scheme) -> Option<(Vec<u8>, u32)> {
-    match rng.below(6) {
+    match rng.below(5) {
         0 => {
             let mut bytes = character(way, random_cp(rng, true));
             bytes.pop();
             (!bytes.is_empty()).then_some((bytes, 51))
         }
-        1 if way == Scheme::Utf8 => Some((vec![rng.range(0xf5, 0xff) as u8], 52)),
-        1 => Some((character(way, no_character(rng)), 52)),
-        2 => {
+        1 => {
             let cp = random_cp(rng, true);
             let written = t.lines.iter().any(|l| matches!(l.kind, Kind::Both | Kind::FromUnicode) && l.cp == cp);
             (!written).then(|| (character(way, cp), 53))
         }
         _ => None,
     }
+}
+
+/// The bytes for which a cell is of some kind.
+fn bytes_with(row: &Row, kind: impl Fn(Cell) -> bool) -> Vec<u8> {
+    (0..=255).filter(|&b| kind(row[b as usize])).collect()
+}
+
+/// Bytes that lead on, one at least, and the row to which they lead.
+fn leads(rng: &mut Rng, rows: &[Row]) -> Option<(Vec<u8>, usize)> {
+    let (mut way, mut row) = (Vec::new(), 0);
+    while way.is_empty() || !rng.one_in(3) {
+        let leads = bytes_with(&rows[row], |cell| matches!(cell, Cell::Lead(_)));
+        if leads.is_empty() {
+            break;
+        }
+        let b = *rng.pick(&leads);
+        way.push(b);
+        if let Cell::Lead(n) = rows[row][b as usize] {
+            row = n as usize;
+        }
+    }
+    (!way.is_empty()).then_some((way, row))
+}
+
+/// An illegal sequence that ends in the byte that broke it, whatever follows:
+/// that byte is illegal as a first one too.
+pub fn illegal_in_frame(rng: &mut Rng, t: &Table) -> Option<Vec<u8>> {
+    let (mut way, row) = if rng.one_in(3) { (Vec::new(), 0) } else { leads(rng, &t.rows).unwrap_or_default() };
+    let never = bytes_with(&t.rows[0], |cell| cell == Cell::Illegal);
+    let breaking: Vec<u8> = never.into_iter().filter(|&b| t.rows[row][b as usize] == Cell::Illegal).collect();
+    if breaking.is_empty() {
+        return None;
+    }
+    way.push(*rng.pick(&breaking));
+    Some(way)
+}
+
+/// An illegal sequence that a code's first byte breaks, and that ends before it.
+pub fn broken_by(rng: &mut Rng, t: &Table, first: u8) -> Option<Vec<u8>> {
+    (0..5).find_map(|_| {
+        let (way, row) = leads(rng, &t.rows)?;
+        (t.rows[row][first as usize] == Cell::Illegal).then_some(way)
+    })
+}
+
+/// Illegal sequences of a text, one after the other, whatever follows.
+pub fn illegal_in_text(rng: &mut Rng, way: Scheme) -> Vec<Vec<u8>> {
+    if way != Scheme::Utf8 {
+        return vec![character(way, no_character(rng))];
+    }
+    let trail = |rng: &mut Rng, from, to| rng.range(from, to) as u8;
+    let bytes = match rng.below(7) {
+        0 => vec![trail(rng, 0x80, 0xc1)],
+        1 => vec![trail(rng, 0xf5, 0xff)],
+        2 => vec![*rng.pick(&[0xc0, 0xc1]), trail(rng, 0x80, 0xbf)],
+        3 => vec![0xe0, trail(rng, 0x80, 0x9f), trail(rng, 0x80, 0xbf)],
+        4 => vec![0xed, trail(rng, 0xa0, 0xbf), trail(rng, 0x80, 0xbf)],
+        5 => vec![0xf0, trail(rng, 0x80, 0x8f), trail(rng, 0x80, 0xbf), trail(rng, 0x80, 0xbf)],
+        _ => vec![0xf4, trail(rng, 0x90, 0xbf), trail(rng, 0x80, 0xbf), trail(rng, 0x80, 0xbf)],
+    };
+    // Each of them is a sequence.
+    bytes.into_iter().map(|b| vec![b]).collect()
+}
+
+/// Illegal bytes of UTF-8, each a sequence: a character cut short before another.
+pub fn cut_before_character(rng: &mut Rng) -> Vec<Vec<u8>> {
+    let mut bytes = character(Scheme::Utf8, rng.range(0x80, 0xd7ff) as u32);
+    if rng.one_in(3) {
+        bytes = character(Scheme::Utf8, rng.range(0x1_0000, 0x10_ffff) as u32);
+    }
+    bytes.truncate(rng.range(1, bytes.len() - 1));
+    bytes.into_iter().map(|b| vec![b]).collect()
+}
+
+/// What a bad line makes of some bytes: bytes lost, doubled, replaced, inserted,
+/// swapped, and at times the end lost. Some new bytes are strays of the list.
+pub fn damaged(rng: &mut Rng, bytes: &[u8], strays: &[u8]) -> Vec<u8> {
+    let mut out = bytes.to_vec();
+    let most = 1 + bytes.len() / 6;
+    for _ in 0..rng.range(1, most) {
+        if out.is_empty() {
+            break;
+        }
+        let at = rng.below(out.len());
+        let stray = match rng.below(3) {
+            0 => rng.byte(),
+            1 if !strays.is_empty() => *rng.pick(strays),
+            _ => *rng.pick(&out),
+        };
+        match rng.below(5) {
+            0 => {
+                out.remove(at);
+            }
+            1 => out.insert(at, out[at]),
+            2 => out[at] = stray,
+            3 => out.insert(at, stray),
+            _ => {
+                let next = (at + 1) % out.len();
+                out.swap(at, next);
+            }
+        }
+    }
+    if rng.one_in(6) && !out.is_empty() {
+        out.truncate(rng.below(out.len()));
+    }
+    out
+}
+
+/// Codes of lines and others, damaged all over; at times nothing but strays. A
+/// stray is a byte that is not illegal in some row.
+pub fn damaged_frame(rng: &mut Rng, t: &Table, items: usize) -> Vec<u8> {
+    let strays = bytes_with(rng.pick(&t.rows), |cell| cell != Cell::Illegal);
+    let mut frame = Vec::new();
+    for _ in 0..rng.range(1, items) {
+        match t.lines.is_empty() || rng.one_in(4) {
+            true => frame.extend(random_code(rng, &t.rows).unwrap_or_default()),
+            false => frame.extend(&rng.pick(&t.lines).code),
+        }
+    }
+    if rng.one_in(4) && !strays.is_empty() {
+        frame.fill_with(|| *rng.pick(&strays));
+    }
+    damaged(rng, &frame, &strays)
 }
 
 /// Codes of lines and other complete codes; half of the time with damage, at
@@ -1998,6 +2146,25 @@ pub fn random_text(rng: &mut Rng, t: &Table, scheme: Scheme, items: usize) -> Ve
         out.truncate(n);
     }
     out
+}
+
+/// Characters of lines and others, damaged all over: bytes, and in UTF-32 whole
+/// characters too.
+pub fn damaged_text(rng: &mut Rng, t: &Table, scheme: Scheme, items: usize) -> Vec<u8> {
+    let (mut out, way) = front(rng, scheme);
+    for _ in 0..rng.range(1, items) {
+        if rng.one_in(6) {
+            out.extend(illegal_in_text(rng, way).concat());
+        }
+        let of_line = !t.lines.is_empty() && !rng.one_in(4);
+        let cp = if of_line { rng.pick(&t.lines).cp } else { random_cp(rng, true) };
+        out.extend(character(way, cp));
+    }
+    // In UTF-32 a byte lost or inserted moves all that follow.
+    match scheme != Scheme::Utf8 && rng.one_in(2) {
+        true => out,
+        false => damaged(rng, &out, &[0x80, 0xbf, 0xc0, 0xc2, 0xe0, 0xe2, 0xed, 0xf0, 0xf4, 0xff]),
+    }
 }
 
 /// A position: the beginning, a complete code, or something like one.

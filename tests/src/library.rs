@@ -1,7 +1,7 @@
 //! The library as a test subject.
 
 use crate::cases::{equal, equal_slices};
-use crate::oracle::{Audited, Loaded, Memory, Piped, Record, Scheme};
+use crate::oracle::{Audited, Loaded, Memory, Piped, Record, Scheme, Settings};
 use crate::raw::LINKED;
 use crate::subject::Subject;
 
@@ -32,10 +32,10 @@ fn number_of(scheme: Scheme) -> u32 {
 
 /// The answer of a conversion, given the slice for its result.
 fn piped(call: impl FnOnce(&mut [u64]) -> u32) -> Piped {
-    let mut result = [CANARY; 5];
+    let mut result = [CANARY; 6];
     let number = call(&mut result);
-    let [read, written] = checked(&result);
-    Piped { number, read, written }
+    let [read, written, length] = checked(&result);
+    Piped { number, read, written, length }
 }
 
 /// Answer and output of the call over the scheme and of the call for UTF-8
@@ -75,13 +75,13 @@ impl Subject for Library {
         input: &[u8],
         output: &mut [u8],
         scheme: Scheme,
-        substitute: bool,
+        settings: Settings,
     ) -> Piped {
-        let (number, substitute) = (number_of(scheme), substitute as u32);
+        let (number, substitute, skip) = (number_of(scheme), settings.substitute as u32, settings.skip as u32);
         let mut other = output.to_vec();
-        let got = piped(|result| LINKED.to_unicode(record, memory, input, output, number, substitute, result));
+        let got = piped(|result| LINKED.to_unicode(record, memory, input, output, number, substitute, skip, result));
         if scheme == Scheme::Utf8 {
-            let alone = piped(|result| LINKED.to_utf8(record, memory, input, &mut other, substitute, result));
+            let alone = piped(|result| LINKED.to_utf8(record, memory, input, &mut other, substitute, skip, result));
             same_for_utf8((got, output), (alone, &other));
         }
         got
@@ -94,16 +94,17 @@ impl Subject for Library {
         input: &[u8],
         output: &mut [u8],
         scheme: Scheme,
-        fallback: bool,
-        substitute: bool,
+        settings: Settings,
     ) -> Piped {
-        let (number, fallback, substitute) = (number_of(scheme), fallback as u32, substitute as u32);
+        let number = number_of(scheme);
+        let (fallback, substitute, skip) = (settings.fallback as u32, settings.substitute as u32, settings.skip as u32);
         let mut other = output.to_vec();
-        let got =
-            piped(|result| LINKED.from_unicode(record, memory, input, output, number, fallback, substitute, result));
+        let got = piped(|result| {
+            LINKED.from_unicode(record, memory, input, output, number, fallback, substitute, skip, result)
+        });
         if scheme == Scheme::Utf8 {
             let alone =
-                piped(|result| LINKED.from_utf8(record, memory, input, &mut other, fallback, substitute, result));
+                piped(|result| LINKED.from_utf8(record, memory, input, &mut other, fallback, substitute, skip, result));
             same_for_utf8((got, output), (alone, &other));
         }
         got

@@ -649,15 +649,20 @@ const SHORT: usize = 15;
 /// A code or a character, and what it must give.
 type Step = (Vec<u8>, Vec<u8>);
 
-/// All in one call, with hints; then in short pieces, without.
-fn converted(steps: &[Step], name: &str, call: impl Fn(&[u8], &mut [u8], &mut [u64]) -> u32) -> Result<(), String> {
+/// All in one call, with hints; then in short pieces, without. Either with
+/// skipping off and on, of which nothing shows.
+fn converted(
+    steps: &[Step],
+    name: &str,
+    call: impl Fn(&[u8], &mut [u8], u32, &mut [u64]) -> u32,
+) -> Result<(), String> {
     let pieces = std::iter::once(steps).chain(steps.chunks(SHORT));
-    for piece in pieces {
+    for (piece, skip) in pieces.flat_map(|piece| [(piece, 0), (piece, 1)]) {
         let input: Vec<u8> = piece.iter().flat_map(|step| step.0.clone()).collect();
         let want: Vec<u8> = piece.iter().flat_map(|step| step.1.clone()).collect();
-        let (mut output, mut result) = (vec![0; want.len()], [0; 2]);
-        equal(&format!("{name}, number"), call(&input, &mut output, &mut result), 0)?;
-        equal_slices(&format!("{name}, result"), &result, &[input.len() as u64, want.len() as u64])?;
+        let (mut output, mut result) = (vec![0; want.len()], [9; 3]);
+        equal(&format!("{name}, number"), call(&input, &mut output, skip, &mut result), 0)?;
+        equal_slices(&format!("{name}, result"), &result, &[input.len() as u64, want.len() as u64, 0])?;
         equal_slices(&format!("{name}, output"), &output, &want)?;
     }
     Ok(())
@@ -700,8 +705,8 @@ fn to_utf8() -> Result<(), String> {
         };
         let steps: Vec<Step> = codes_near(&mut rng, &made.table).into_iter().map(step).collect();
         let name = format!("{} lines to UTF-8", stored.n);
-        converted(&steps, &name, |input, output, result| {
-            LINKED.to_utf8(&record, &stored.memory, input, output, 1, result)
+        converted(&steps, &name, |input, output, skip, result| {
+            LINKED.to_utf8(&record, &stored.memory, input, output, 1, skip, result)
         })?;
     }
     Ok(())
@@ -724,8 +729,8 @@ fn from_utf8() -> Result<(), String> {
         };
         let steps: Vec<Step> = points.into_iter().filter_map(step).collect();
         let name = format!("{} lines from UTF-8", stored.n);
-        converted(&steps, &name, |input, output, result| {
-            LINKED.from_utf8(&record, &stored.memory, input, output, 1, 1, result)
+        converted(&steps, &name, |input, output, skip, result| {
+            LINKED.from_utf8(&record, &stored.memory, input, output, 1, 1, skip, result)
         })?;
     }
     Ok(())

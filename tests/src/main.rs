@@ -9,6 +9,8 @@
 
 #[cfg(not(feature = "oracle-only"))]
 mod abi;
+mod by_hand;
+mod cable;
 #[rustfmt::skip]
 mod cases;
 mod gen;
@@ -126,16 +128,20 @@ fn panic_text(e: Box<dyn Any + Send>) -> String {
     }
 }
 
-fn hand_written(s: &dyn Subject, tally: &mut Tally) {
+fn subject_cases(s: &dyn Subject, what: &str, list: Vec<cases::Case>, tally: &mut Tally) {
     let start = Instant::now();
     tally.here = 0;
-    let list = cases::all();
-    let n = list.cases.len();
-    for case in list.cases {
+    let n = list.len();
+    for case in list {
         begin(format!("[{}] {}", s.name(), case.name));
         tally.count(s.name(), &case.name, guarded(|| (case.run)(s)));
     }
-    println!("[{}] {n} hand-written cases, {:.1} s", s.name(), start.elapsed().as_secs_f64());
+    println!("[{}] {n} {what}, {:.1} s", s.name(), start.elapsed().as_secs_f64());
+}
+
+fn hand_written(s: &dyn Subject, tally: &mut Tally) {
+    subject_cases(s, "hand-written cases", cases::all().cases, tally);
+    subject_cases(s, "cases of the cable", cable::cases(), tally);
 }
 
 /// The generator of case `i` of a group.
@@ -201,7 +207,7 @@ fn random_groups(s: &dyn Subject, compare: bool, seed: u64, count: u64, tally: &
         let seen: Vec<String> = reached
             .counts
             .iter()
-            .filter(|((w, _), _)| w == what)
+            .filter(|((w, _), _)| w == *what)
             .map(|((_, number), n)| format!("{number} x {n}"))
             .collect();
         println!("[{}] reached, {what}: {}", s.name(), seen.join(", "));
@@ -211,7 +217,7 @@ fn random_groups(s: &dyn Subject, compare: bool, seed: u64, count: u64, tally: &
         let mut missing = Vec::new();
         for (what, numbers) in TO_REACH {
             for &number in *numbers {
-                if !reached.counts.contains_key(&(*what, number)) {
+                if !reached.counts.contains_key(&(what.to_string(), number)) {
                     missing.push(format!("{what} {number}"));
                 }
             }

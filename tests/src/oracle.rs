@@ -961,6 +961,17 @@ pub struct Piped {
     pub number: u32,
     pub read: u64,
     pub written: u64,
+    /// Of the illegal sequence for 52, else 0.
+    pub length: u64,
+}
+
+/// The settings of a conversion. Towards Unicode there is no fallback.
+#[derive(Clone, Copy, PartialEq, Eq, Debug)]
+pub struct Settings {
+    pub fallback: bool,
+    pub substitute: bool,
+    /// Illegal sequences are passed over.
+    pub skip: bool,
 }
 
 /// What the lines say, for quick look-up.
@@ -1015,7 +1026,8 @@ enum Sequence<T> {
     /// A whole sequence of this length.
     Whole(T, usize),
     CutShort,
-    Illegal,
+    /// An illegal sequence of this length.
+    Illegal(usize),
 }
 
 /// One sequence cut by the states. Its length is that of the complete code.
@@ -1024,14 +1036,24 @@ fn cut_code(rows: &[Row], input: &[u8]) -> Sequence<()> {
     for (i, &b) in input.iter().enumerate() {
         match rows[row][b as usize] {
             Cell::Lead(n) => row = n as usize,
-            Cell::Illegal => return Sequence::Illegal,
+            Cell::Illegal => return Sequence::Illegal(if ends_before(rows, i, b) { i } else { i + 1 }),
             _ => return Sequence::Whole((), i + 1),
         }
     }
     Sequence::CutShort // each byte led on
 }
 
-/// One sequence of UTF-8 by RFC 3629's table.
+/// Where the breaking byte is not the sequence's first, and would not be illegal
+/// as a first byte in row 0, the sequence ends before it. (S5: an end of any kind
+/// but `i`, or leading on, if only to an empty row.)
+fn ends_before(rows: &[Row], place: usize, breaking: u8) -> bool {
+    let is_first = place == 0;
+    let illegal_as_first = rows[0][breaking as usize] == Cell::Illegal;
+    !is_first && !illegal_as_first
+}
+
+/// One sequence of UTF-8 by RFC 3629's table. Towards the panel the length of
+/// an illegal one is 1, however many bytes were looked at.
 fn cut_utf8(input: &[u8]) -> Sequence<u32> {
     let lead = input[0];
     // Length, and the bounds of the second byte.
@@ -1044,7 +1066,7 @@ fn cut_utf8(input: &[u8]) -> Sequence<u32> {
         0xf0 => (4, 0x90, 0xbf),
         0xf1..=0xf3 => (4, 0x80, 0xbf),
         0xf4 => (4, 0x80, 0x8f),
-        _ => return Sequence::Illegal,
+        _ => return Sequence::Illegal(1),
     };
     let mut cp = match length {
         1 => lead as u32,
@@ -1058,7 +1080,7 @@ fn cut_utf8(input: &[u8]) -> Sequence<u32> {
         };
         let (low, high) = if i == 1 { (low, high) } else { (0x80, 0xbf) };
         if b < low || b > high {
-            return Sequence::Illegal;
+            return Sequence::Illegal(1);
         }
         cp = cp * 64 + (b as u32 - 0x80);
     }
@@ -1097,7 +1119,7 @@ fn cut_utf32(input: &[u8], value_of: fn([u8; 4]) -> u32) -> Sequence<u32> {
     };
     match value_of(*four) {
         value @ (0..=0xd7ff | 0xe000..=0x10_ffff) => Sequence::Whole(value, 4),
-        _ => Sequence::Illegal,
+        _ => Sequence::Illegal(4),
     }
 }
 
@@ -1142,52 +1164,67 @@ fn mark_read(scheme: Scheme, input: &[u8]) -> (Scheme, usize) {
 /// Bytes read and what they give.
 type Step = (usize, Vec<u8>);
 
+/// Why a conversion does not go on at a sequence.
+enum Stop {
+    CutShort,
+    /// Of this length.
+    Illegal(usize),
+    Unassigned,
+}
+
 /// Goes through the input. `mark` is the first step, no sequence of the text;
-/// `one` gives the step of the first sequence in what is left, or the number
-/// that stops there (51, 52, 53).
-fn pipe(input: &[u8], output: &mut [u8], mark: Step, one: impl Fn(&[u8]) -> Result<Step, u32>) -> Piped {
+/// `one` gives the step of the first sequence in what is left, or what stops
+/// there. `skipped` is what is written for an illegal sequence with skipping on.
+fn pipe(
+    input: &[u8],
+    output: &mut [u8],
+    mark: Step,
+    skipped: Option<Vec<u8>>,
+    one: impl Fn(&[u8]) -> Result<Step, Stop>,
+) -> Piped {
     let (mut read, mut written) = (0, 0);
-    let mut step = Ok(mark);
-    let number = loop {
-        match step {
-            Err(number) => break number,
-            Ok((length, out)) => {
-                if out.len() > output.len() - written {
-                    break 50;
-                }
-                output[written..written + out.len()].copy_from_slice(&out);
-                read += length;
-                written += out.len();
-            }
+    let mut step = mark;
+    let (number, illegal) = loop {
+        let (length, out) = step;
+        if out.len() > output.len() - written {
+            break (50, 0);
         }
+        output[written..written + out.len()].copy_from_slice(&out);
+        read += length;
+        written += out.len();
         if read == input.len() {
-            break 0;
+            break (0, 0);
         }
-        step = one(&input[read..]);
+        step = match (one(&input[read..]), &skipped) {
+            (Ok(step), _) => step,
+            // It is passed over by its length, and the conversion goes on.
+            (Err(Stop::Illegal(length)), Some(instead)) => (length, instead.clone()),
+            (Err(Stop::Illegal(length)), None) => break (52, length),
+            (Err(Stop::CutShort), _) => break (51, 0),
+            (Err(Stop::Unassigned), _) => break (53, 0),
+        };
     };
-    Piped { number, read: read as u64, written: written as u64 }
+    Piped { number, read: read as u64, written: written as u64, length: illegal as u64 }
 }
 
-pub fn to_unicode(t: &Table, input: &[u8], output: &mut [u8], scheme: Scheme, substitute: bool) -> Piped {
-    to_unicode_by(t, &Lines::of(t), input, output, scheme, substitute)
-}
-
-/// The same with the table's lines at hand, for many frames.
-pub fn to_unicode_by(
+/// With the table's lines at hand, for many frames.
+pub fn to_unicode(
     t: &Table,
     lines: &Lines,
     input: &[u8],
     output: &mut [u8],
     scheme: Scheme,
-    substitute: bool,
+    settings: Settings,
 ) -> Piped {
     let mark = (0, mark_to_write(scheme));
-    pipe(input, output, mark, |rest| match cut_code(&t.rows, rest) {
-        Sequence::CutShort => Err(51),
-        Sequence::Illegal => Err(52),
+    // U+FFFD, never U+001A (S7).
+    let skipped = settings.skip.then(|| character(scheme, 0xfffd));
+    pipe(input, output, mark, skipped, |rest| match cut_code(&t.rows, rest) {
+        Sequence::CutShort => Err(Stop::CutShort),
+        Sequence::Illegal(length) => Err(Stop::Illegal(length)),
         Sequence::Whole((), length) => match lines.reads(&rest[..length]) {
             Some(cp) => Ok((length, character(scheme, cp))),
-            None if !substitute => Err(53),
+            None if !settings.substitute => Err(Stop::Unassigned),
             None if length == 1 && t.subchar1.is_some() => Ok((length, character(scheme, 0x1a))),
             None => Ok((length, character(scheme, 0xfffd))),
         },
@@ -1196,21 +1233,22 @@ pub fn to_unicode_by(
 
 pub fn from_unicode(
     t: &Table,
+    lines: &Lines,
     input: &[u8],
     output: &mut [u8],
     scheme: Scheme,
-    fallback: bool,
-    substitute: bool,
+    settings: Settings,
 ) -> Piped {
-    let lines = Lines::of(t);
     let (scheme, length) = mark_read(scheme, input);
     let mark = (length, Vec::new());
-    pipe(input, output, mark, |rest| match cut_character(scheme, rest) {
-        Sequence::CutShort => Err(51),
-        Sequence::Illegal => Err(52),
-        Sequence::Whole(cp, length) => match lines.writes(cp, fallback) {
+    // subchar, never subchar1 (S7).
+    let skipped = settings.skip.then(|| t.subchar.clone());
+    pipe(input, output, mark, skipped, |rest| match cut_character(scheme, rest) {
+        Sequence::CutShort => Err(Stop::CutShort),
+        Sequence::Illegal(length) => Err(Stop::Illegal(length)),
+        Sequence::Whole(cp, length) => match lines.writes(cp, settings.fallback) {
             Some(code) => Ok((length, code.to_vec())),
-            None if !substitute => Err(53),
+            None if !settings.substitute => Err(Stop::Unassigned),
             None if lines.sub1.contains(&cp) => Ok((length, vec![t.subchar1.expect("T8")])),
             None => Ok((length, t.subchar.clone())),
         },

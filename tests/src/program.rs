@@ -2,7 +2,7 @@
 //! for a table file and an input. Built on the oracle; it reads all before it
 //! writes anything.
 
-use crate::oracle::{self, Codes, Lines, Scheme, Table};
+use crate::oracle::{self, Codes, Lines, Scheme, Settings, Table};
 use std::fs::File;
 use std::io::{self, Read, Write};
 use std::path::Path;
@@ -11,6 +11,8 @@ use std::path::Path;
 pub const MAX_TABLE: usize = 32_768;
 /// The longest frame in bytes.
 pub const MAX_FRAME: usize = 4_096;
+/// Substitute setting, fallback off; skipping stays off.
+const SETTINGS: Settings = Settings { fallback: false, substitute: true, skip: false };
 
 /// What is written on standard output; `None` is a table that cannot be read.
 pub fn answer(table: Option<&[u8]>, input: &[u8]) -> Vec<u8> {
@@ -71,7 +73,7 @@ fn digit(b: u8) -> Option<u8> {
 /// Number, bytes read, output.
 fn converted(t: &Table, lines: &Lines, frame: &[u8]) -> String {
     let mut space = vec![0; 4 * frame.len()];
-    let got = oracle::to_unicode_by(t, lines, frame, &mut space, Scheme::Utf8, true);
+    let got = oracle::to_unicode(t, lines, frame, &mut space, Scheme::Utf8, SETTINGS);
     format!("{} {} {}\n", got.number, got.read, hex(&space[..got.written as usize]))
 }
 

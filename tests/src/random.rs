@@ -1,11 +1,14 @@
 //! Random cases in groups. A case is an `Input`; what is known of its answer by
 //! construction is checked on every subject, and the library is compared with
 //! the oracle in everything: answers, record, whole slices with the places
-//! behind, whole outputs. A failing case is shrunk and printed.
+//! behind, whole outputs. Every conversion is made without skipping and with it.
+//! A failing case is shrunk and printed.
 
+use crate::by_hand::{self, First, Joined};
 use crate::cases::{equal, equal_memory, equal_slices, junk, old_bytes, old_entries};
 use crate::gen::{self, Change, Made, Rng};
-use crate::oracle::{self, Cell, Kind, Memory, Piped, Record, Scheme, Table, MAPPING_PLACES, STATE_PLACES};
+use crate::oracle::{self, Cell, Kind, Lines, Memory, Piped, Record, Scheme, Settings, Table};
+use crate::oracle::{MAPPING_PLACES, STATE_PLACES};
 use crate::subject::{Oracle, Subject};
 use std::collections::BTreeMap;
 use std::time::{Duration, Instant};
@@ -23,22 +26,42 @@ pub enum Known {
 }
 
 /// What is known of a conversion by construction: where it stands after each
-/// step, the mark's among them, what it writes and the number at the end.
+/// step, the mark's among them, what it writes, and the number at the end with
+/// the length for 52.
 #[derive(Clone)]
 pub struct Outcome {
     /// Bytes read and written so far; (0, 0) first.
     steps: Vec<(usize, usize)>,
     output: Vec<u8>,
     number: u32,
+    length: usize,
 }
 
 impl Outcome {
+    fn new() -> Outcome {
+        Outcome { steps: vec![(0, 0)], output: Vec::new(), number: 0, length: 0 }
+    }
+
+    /// One step more, up to this place of the input.
+    fn step(&mut self, place: usize, out: &[u8]) {
+        if self.number == 0 {
+            self.output.extend(out);
+            self.steps.push((place, self.output.len()));
+        }
+    }
+
+    fn stop(&mut self, number: u32, length: usize) {
+        if self.number == 0 {
+            (self.number, self.length) = (number, length);
+        }
+    }
+
     /// The last step that fits into a space: 50 unless it is the last of all.
     fn with(&self, space: usize) -> Piped {
         let fits = self.steps.iter().take_while(|step| step.1 <= space).count();
         let (read, written) = self.steps[fits - 1];
-        let number = if fits == self.steps.len() { self.number } else { 50 };
-        Piped { number, read: read as u64, written: written as u64 }
+        let (number, length) = if fits == self.steps.len() { (self.number, self.length) } else { (50, 0) };
+        Piped { number, read: read as u64, written: written as u64, length: length as u64 }
     }
 
     fn check(&self, got: Piped, output: &[u8]) -> Result<(), String> {
@@ -48,6 +71,47 @@ impl Outcome {
         let n = want.written as usize;
         equal_slices("known output", &output[..n], &self.output[..n])?;
         equal_slices("output behind", &output[n..], &old_bytes(space)[n..])
+    }
+}
+
+/// An input put together from parts whose outcome is known.
+struct Parts {
+    input: Vec<u8>,
+    /// Written for each illegal sequence with skipping on.
+    instead: Vec<u8>,
+    /// Without skipping, and with it.
+    outcomes: [Outcome; 2],
+}
+
+impl Parts {
+    fn new(instead: Vec<u8>) -> Parts {
+        Parts { input: Vec::new(), instead, outcomes: [Outcome::new(), Outcome::new()] }
+    }
+
+    /// Bytes that give an output.
+    fn gives(&mut self, bytes: &[u8], out: &[u8]) {
+        self.input.extend(bytes);
+        self.outcomes.iter_mut().for_each(|o| o.step(self.input.len(), out));
+    }
+
+    /// An illegal sequence.
+    fn illegal(&mut self, bytes: &[u8]) {
+        self.input.extend(bytes);
+        let [off, on] = &mut self.outcomes;
+        off.stop(52, bytes.len());
+        on.step(self.input.len(), &self.instead);
+    }
+
+    /// Bytes at which it stops, skipping or not.
+    fn stops(&mut self, bytes: &[u8], number: u32) {
+        self.input.extend(bytes);
+        self.outcomes.iter_mut().for_each(|o| o.stop(number, 0));
+    }
+
+    /// Spaces for both outcomes.
+    fn spaces(&self, rng: &mut Rng) -> Vec<usize> {
+        let [off, on] = self.outcomes.each_ref().map(|o| o.output.len());
+        spaces(rng, off, on)
     }
 }
 
@@ -61,7 +125,8 @@ pub enum Act {
         input: Vec<u8>,
         spaces: Vec<usize>,
         substitute: bool,
-        known: Option<Outcome>,
+        /// Without skipping, and with it.
+        known: Option<[Outcome; 2]>,
     },
     From {
         scheme: Scheme,
@@ -69,7 +134,7 @@ pub enum Act {
         spaces: Vec<usize>,
         fallback: bool,
         substitute: bool,
-        known: Option<Outcome>,
+        known: Option<[Outcome; 2]>,
     },
     /// Pieces (allowance, space) from a position on, each from where the last
     /// one ended. `whole`: they end at the finish, and joined they are the
@@ -105,12 +170,12 @@ pub enum Input {
 /// How often each number was met, by kind of call.
 #[derive(Default)]
 pub struct Reached {
-    pub counts: BTreeMap<(&'static str, u32), u64>,
+    pub counts: BTreeMap<(String, u32), u64>,
 }
 
 impl Reached {
-    fn note(&mut self, what: &'static str, number: u32) {
-        *self.counts.entry((what, number)).or_insert(0) += 1;
+    fn note(&mut self, what: &str, number: u32) {
+        *self.counts.entry((what.to_string(), number)).or_insert(0) += 1;
     }
 }
 
@@ -126,29 +191,45 @@ pub const TO_REACH: &[(&str, &[u32])] = &[
     ("from UTF-32BE", PIPE_NUMBERS),
     ("from UTF-32LE", PIPE_NUMBERS),
     ("from UTF-32", PIPE_NUMBERS),
+    ("to UTF-8, skipping", SKIP_NUMBERS),
+    ("to UTF-32BE, skipping", SKIP_NUMBERS),
+    ("to UTF-32LE, skipping", SKIP_NUMBERS),
+    ("to UTF-32, skipping", SKIP_NUMBERS),
+    ("from UTF-8, skipping", SKIP_NUMBERS),
+    ("from UTF-32BE, skipping", SKIP_NUMBERS),
+    ("from UTF-32LE, skipping", SKIP_NUMBERS),
+    ("from UTF-32, skipping", SKIP_NUMBERS),
+    (FULL_TO, SCHEMES),
+    (FULL_FROM, SCHEMES),
+    (WITH_BREAKING, &[1, 2, 3, 4]),
+    (BEFORE_BREAKING, &[1, 2, 3]),
+    (BREAKING, &[1, 2, 3, 4, 5]),
+    (BYTES_OF_TEXT, &[1, 4]),
+    (MANY, &[2, 3, 4]),
     ("audit", &[0, 40, 60]),
     ("cause", &[1, 2, 3, 4]),
 ];
 
 const PIPE_NUMBERS: &[u32] = &[0, 50, 51, 52, 53, 60];
+/// With skipping on 52 is never given.
+const SKIP_NUMBERS: &[u32] = &[0, 50, 51, 53, 60];
+/// As `Scheme::ALL` has them.
+const SCHEMES: &[u32] = &[0, 1, 2, 3];
+/// Which scheme it was.
+const FULL_TO: &str = "50 for a skipped sequence, to scheme";
+const FULL_FROM: &str = "50 for a skipped sequence, from scheme";
+/// How many bytes a skipped sequence had.
+const WITH_BREAKING: &str = "skipped in a frame with the byte that broke it, bytes";
+const BEFORE_BREAKING: &str = "skipped in a frame before the byte that broke it, bytes";
+const BYTES_OF_TEXT: &str = "skipped in a text, bytes";
+/// 1 to 3: an end without a letter, `p`, `u`; 4 leads on, 5 leads to an empty row.
+const BREAKING: &str = "breaking byte as a first one";
+/// Two, three, four or more sequences skipped in one input.
+const MANY: &str = "sequences skipped in one input";
 
 /// The kind of call, as it is counted.
-fn to_name(scheme: Scheme) -> &'static str {
-    match scheme {
-        Scheme::Utf8 => "to UTF-8",
-        Scheme::Utf32Be => "to UTF-32BE",
-        Scheme::Utf32Le => "to UTF-32LE",
-        Scheme::Utf32 => "to UTF-32",
-    }
-}
-
-fn from_name(scheme: Scheme) -> &'static str {
-    match scheme {
-        Scheme::Utf8 => "from UTF-8",
-        Scheme::Utf32Be => "from UTF-32BE",
-        Scheme::Utf32Le => "from UTF-32LE",
-        Scheme::Utf32 => "from UTF-32",
-    }
+fn call_name(way: &str, scheme: Scheme, skip: bool) -> String {
+    format!("{way} {}{}", scheme.name(), if skip { ", skipping" } else { "" })
 }
 
 // ---------------------------------------------------------------------------
@@ -251,36 +332,38 @@ fn run_act(
             Ok(())
         }
         Act::To { scheme, input, spaces, substitute, known } => {
-            for &space in spaces {
-                let mut output = old_bytes(space);
-                let got = s.to_unicode(record, memory, input, &mut output, *scheme, *substitute);
-                reached.note(to_name(*scheme), got.number);
-                if let Some(known) = known {
-                    known.check(got, &output)?;
-                }
-                if compare {
-                    let mut other = old_bytes(space);
-                    let want = Oracle.to_unicode(record, memory, input, &mut other, *scheme, *substitute);
-                    equal(&format!("answer with space {space}"), got, want)?;
-                    equal_slices(&format!("output with space {space}"), &output, &other)?;
-                }
+            let set = |skip| Settings { fallback: false, substitute: *substitute, skip };
+            let name = |skip| call_name("to", *scheme, skip);
+            let convert = |s: &dyn Subject, output: &mut [u8], skip| {
+                s.to_unicode(record, memory, input, output, *scheme, set(skip))
+            };
+            conversion(s, spaces, known, compare, reached, &name, &convert)?;
+            let by_hand = |space| by_hand::to_unicode(s, record, memory, input, space, *scheme, set(false));
+            let skipped = as_by_hand(s, *scheme, FULL_TO, spaces, reached, &by_hand, &convert)?;
+            for (place, length) in skipped {
+                let first = by_hand::broken(&memory.states, &input[place..], length)?;
+                let (what, kind) = match first {
+                    First::Illegal => (WITH_BREAKING, None),
+                    First::Ends(end) => (BEFORE_BREAKING, Some(end as u32)),
+                    First::Leads => (BEFORE_BREAKING, Some(4)),
+                    First::LeadsToEmptyRow => (BEFORE_BREAKING, Some(5)),
+                };
+                reached.note(what, length as u32);
+                kind.into_iter().for_each(|kind| reached.note(BREAKING, kind));
             }
             Ok(())
         }
         Act::From { scheme, input, spaces, fallback, substitute, known } => {
-            for &space in spaces {
-                let mut output = old_bytes(space);
-                let got = s.from_unicode(record, memory, input, &mut output, *scheme, *fallback, *substitute);
-                reached.note(from_name(*scheme), got.number);
-                if let Some(known) = known {
-                    known.check(got, &output)?;
-                }
-                if compare {
-                    let mut other = old_bytes(space);
-                    let want = Oracle.from_unicode(record, memory, input, &mut other, *scheme, *fallback, *substitute);
-                    equal(&format!("answer with space {space}"), got, want)?;
-                    equal_slices(&format!("output with space {space}"), &output, &other)?;
-                }
+            let set = |skip| Settings { fallback: *fallback, substitute: *substitute, skip };
+            let name = |skip| call_name("from", *scheme, skip);
+            let convert = |s: &dyn Subject, output: &mut [u8], skip| {
+                s.from_unicode(record, memory, input, output, *scheme, set(skip))
+            };
+            conversion(s, spaces, known, compare, reached, &name, &convert)?;
+            let by_hand = |space| by_hand::from_unicode(s, record, memory, input, space, *scheme, set(false));
+            for (_, length) in as_by_hand(s, *scheme, FULL_FROM, spaces, reached, &by_hand, &convert)? {
+                equal("length of an illegal sequence", length, if *scheme == Scheme::Utf8 { 1 } else { 4 })?;
+                reached.note(BYTES_OF_TEXT, length as u32);
             }
             Ok(())
         }
@@ -336,6 +419,73 @@ fn run_act(
     }
 }
 
+/// A subject's conversion into a space, skipping or not.
+type Convert<'a> = &'a dyn Fn(&dyn Subject, &mut [u8], bool) -> Piped;
+
+/// A conversion into every space, without skipping and with it.
+fn conversion(
+    s: &dyn Subject,
+    spaces: &[usize],
+    known: &Option<[Outcome; 2]>,
+    compare: bool,
+    reached: &mut Reached,
+    name: &dyn Fn(bool) -> String,
+    convert: Convert,
+) -> Result<(), String> {
+    for skip in [false, true] {
+        let name = name(skip);
+        for &space in spaces {
+            let mut output = old_bytes(space);
+            let got = convert(s, &mut output, skip);
+            reached.note(&name, got.number);
+            // A length stands with 52 alone, and with skipping on there is no 52.
+            equal(&format!("{name}: a length"), got.length > 0, got.number == 52)?;
+            equal(&format!("{name}: 52 while skipping"), skip && got.number == 52, false)?;
+            if let Some(known) = known {
+                known[skip as usize].check(got, &output).map_err(|why| format!("{name}: {why}"))?;
+            }
+            if compare {
+                let mut other = old_bytes(space);
+                let want = convert(&Oracle, &mut other, skip);
+                equal(&format!("{name}, answer with space {space}"), got, want)?;
+                equal_slices(&format!("{name}, output with space {space}"), &output, &other)?;
+            }
+        }
+    }
+    Ok(())
+}
+
+/// Skipping does what a caller does who goes on by hand; tried in some of the
+/// spaces, the largest among them. Gives what is skipped there.
+fn as_by_hand(
+    s: &dyn Subject,
+    scheme: Scheme,
+    full: &str,
+    spaces: &[usize],
+    reached: &mut Reached,
+    by_hand: &dyn Fn(usize) -> Result<Joined, String>,
+    convert: Convert,
+) -> Result<Vec<(usize, usize)>, String> {
+    let largest = spaces.iter().max().copied().into_iter();
+    let some = spaces.iter().copied().step_by(spaces.len().div_ceil(5).max(1));
+    let mut skipped = Vec::new();
+    for space in some.chain(largest) {
+        let joined = by_hand(space)?;
+        let mut output = old_bytes(space);
+        equal(&format!("skipping and by hand, space {space}"), convert(s, &mut output, true), joined.answer)?;
+        equal_slices(&format!("skipping and by hand, output with space {space}"), &output, &joined.output)?;
+        if joined.full {
+            let number = Scheme::ALL.iter().position(|&other| other == scheme);
+            reached.note(full, number.expect("one of all") as u32);
+        }
+        skipped = joined.skipped;
+    }
+    if skipped.len() > 1 {
+        reached.note(MANY, skipped.len().min(4) as u32);
+    }
+    Ok(skipped)
+}
+
 /// Document 01's plain list straight from the lines, without the oracle's walk
 /// and look-up: every complete code in byte order with its cause, if any.
 fn plain_list(t: &Table, fallback: bool) -> Option<Vec<(Vec<u8>, Option<u64>)>> {
@@ -377,21 +527,23 @@ pub struct Group {
 }
 
 pub const GROUPS: &[Group] = &[
-    Group { name: "load: valid tables in random dress", share: 90, on_oracle: true, make: load_valid },
+    Group { name: "load: valid tables in random dress", share: 80, on_oracle: true, make: load_valid },
     Group { name: "load: full tables", share: 3, on_oracle: true, make: load_full },
-    Group { name: "load: a text for each number", share: 80, on_oracle: true, make: load_number },
-    Group { name: "load: damaged texts", share: 90, on_oracle: false, make: load_damaged },
-    Group { name: "load: nearly right lines", share: 140, on_oracle: false, make: load_near },
-    Group { name: "load: several rules broken on a line", share: 60, on_oracle: false, make: load_several },
+    Group { name: "load: a text for each number", share: 70, on_oracle: true, make: load_number },
+    Group { name: "load: damaged texts", share: 80, on_oracle: false, make: load_damaged },
+    Group { name: "load: nearly right lines", share: 120, on_oracle: false, make: load_near },
+    Group { name: "load: several rules broken on a line", share: 50, on_oracle: false, make: load_several },
     Group { name: "load: hostile texts", share: 47, on_oracle: false, make: load_hostile },
     Group { name: "load: short and long slices", share: 20, on_oracle: false, make: load_slices },
     Group { name: "test behind 60: forms of valid tables", share: 30, on_oracle: true, make: check_valid },
-    Group { name: "test behind 60: one number changed", share: 60, on_oracle: false, make: check_change },
-    Group { name: "test behind 60: changed tables, disorder", share: 60, on_oracle: false, make: check_broken },
+    Group { name: "test behind 60: one number changed", share: 50, on_oracle: false, make: check_change },
+    Group { name: "test behind 60: changed tables, disorder", share: 50, on_oracle: false, make: check_broken },
     Group { name: "test behind 60: random memories", share: 20, on_oracle: false, make: check_random },
     Group { name: "pipes: known texts and stops both ways", share: 60, on_oracle: true, make: pipe_known },
     Group { name: "to Unicode: valid, damaged, cut frames", share: 70, on_oracle: false, make: to_random },
     Group { name: "from Unicode: valid, damaged, cut", share: 80, on_oracle: false, make: from_random },
+    Group { name: "to Unicode: frames damaged all over", share: 40, on_oracle: false, make: to_damaged },
+    Group { name: "from Unicode: texts damaged all over", share: 40, on_oracle: false, make: from_damaged },
     Group { name: "pipes: long inputs over full tables", share: 10, on_oracle: false, make: pipe_full },
     Group { name: "pipes and audit over changed memory", share: 30, on_oracle: false, make: act_changed },
     Group { name: "audit: random calls", share: 30, on_oracle: false, make: audit_random },
@@ -520,13 +672,19 @@ fn check_random(rng: &mut Rng) -> Input {
     Input::Memory { base: Vec::new(), changes, lengths: lengths(rng), act: Act::Check { known: None } }
 }
 
-/// Every space from 0 to enough for short inputs, else a few.
-fn spaces(rng: &mut Rng, enough: usize) -> Vec<usize> {
-    if enough <= 40 {
-        (0..=enough + 2).collect()
-    } else {
-        vec![0, rng.below(9), rng.below(enough), rng.below(enough), enough - 1, enough, enough + 5]
+/// Every space from 0 to enough for short outputs, else a few around what is
+/// enough without skipping and with it.
+fn spaces(rng: &mut Rng, off: usize, on: usize) -> Vec<usize> {
+    let most = off.max(on);
+    if most <= 40 {
+        return (0..=most + 2).collect();
     }
+    let mut few = vec![0, rng.below(9), rng.below(most), rng.below(most), most - 1, most, most + 5];
+    if off != on {
+        let least = off.min(on);
+        few.extend([least.saturating_sub(1), least, least + 1]);
+    }
+    few
 }
 
 /// UTF-8 as often as the others together.
@@ -534,11 +692,11 @@ fn a_scheme(rng: &mut Rng) -> Scheme {
     *rng.pick(&[Scheme::Utf8, Scheme::Utf8, Scheme::Utf8, Scheme::Utf32Be, Scheme::Utf32Le, Scheme::Utf32])
 }
 
-/// A conversion of characters that `|0` lines map, with a known stop behind
-/// them at times.
+/// A conversion of characters that `|0` lines map, with illegal sequences
+/// between them and a known stop behind them at times.
 fn pipe_known(rng: &mut Rng) -> Input {
     let made = loop {
-        let made = a_table(rng);
+        let made = a_fragile_table(rng);
         if made.table.lines.iter().any(|l| l.kind == Kind::Both) {
             break made;
         }
@@ -556,88 +714,142 @@ fn both_ways<'a>(rng: &mut Rng, t: &'a Table) -> Vec<&'a oracle::Line> {
 
 fn to_known(rng: &mut Rng, t: &Table) -> Act {
     let scheme = a_scheme(rng);
-    let (mut input, mut known) = (Vec::new(), Outcome { steps: vec![(0, 0)], output: Vec::new(), number: 0 });
+    let mut parts = Parts::new(gen::character(scheme, 0xfffd));
     if scheme == Scheme::Utf32 {
-        known.output.extend(gen::MARK);
-        known.steps.push((0, 4));
+        parts.gives(&[], &gen::MARK);
     }
+    let damage = rng.one_in(2);
     for line in both_ways(rng, t) {
-        input.extend(&line.code);
-        known.output.extend(gen::character(scheme, line.cp));
-        known.steps.push((input.len(), known.output.len()));
+        if damage && rng.one_in(5) {
+            gen::illegal_in_frame(rng, t).into_iter().for_each(|bytes| parts.illegal(&bytes));
+        }
+        if damage && rng.one_in(5) {
+            // The code itself breaks it.
+            gen::broken_by(rng, t, line.code[0]).into_iter().for_each(|bytes| parts.illegal(&bytes));
+        }
+        parts.gives(&line.code, &gen::character(scheme, line.cp));
+    }
+    if damage && rng.one_in(2) {
+        gen::illegal_in_frame(rng, t).into_iter().for_each(|bytes| parts.illegal(&bytes));
     }
     let mut substitute = rng.one_in(2);
     if let Some((bytes, number)) = gen::stop_in_frame(rng, t) {
-        input.extend(bytes);
-        known.number = number;
+        parts.stops(&bytes, number);
         substitute &= number != 53;
     }
-    let spaces = spaces(rng, known.output.len());
-    Act::To { scheme, input, spaces, substitute, known: Some(known) }
+    let spaces = parts.spaces(rng);
+    Act::To { scheme, input: parts.input, spaces, substitute, known: Some(parts.outcomes) }
 }
 
 fn from_known(rng: &mut Rng, t: &Table) -> Act {
     let scheme = a_scheme(rng);
     let (mark, way) = gen::front(rng, scheme);
-    let (mut input, mut output) = (mark, Vec::new());
-    let mut steps = vec![(0, 0), (input.len(), 0)];
+    let mut parts = Parts::new(t.subchar.clone());
+    parts.gives(&mark, &[]);
+    // Without a mark, what comes first could be one.
+    let may_be_mark = |parts: &Parts| scheme == Scheme::Utf32 && parts.input.is_empty();
+    let damage = rng.one_in(2);
     for line in both_ways(rng, t) {
-        // Without a mark an initial FEFF would be one.
-        if scheme == Scheme::Utf32 && input.is_empty() && line.cp == 0xfeff {
+        if may_be_mark(&parts) && line.cp == 0xfeff {
             continue;
         }
-        input.extend(gen::character(way, line.cp));
-        output.extend(&line.code);
-        steps.push((input.len(), output.len()));
+        if damage && rng.one_in(5) && !may_be_mark(&parts) {
+            gen::illegal_in_text(rng, way).iter().for_each(|bytes| parts.illegal(bytes));
+        }
+        if damage && rng.one_in(5) && way == Scheme::Utf8 {
+            // The next character breaks it.
+            gen::cut_before_character(rng).iter().for_each(|bytes| parts.illegal(bytes));
+        }
+        parts.gives(&gen::character(way, line.cp), &line.code);
     }
-    let (fallback, mut substitute, mut number) = (rng.one_in(2), rng.one_in(2), 0);
-    if let Some((bytes, stop)) = gen::stop_in_text(rng, t, way) {
-        // In front of all it might be a mark.
-        if !input.is_empty() || scheme != Scheme::Utf32 {
-            input.extend(bytes);
-            number = stop;
-            substitute &= stop != 53;
+    if damage && rng.one_in(2) && !may_be_mark(&parts) {
+        gen::illegal_in_text(rng, way).iter().for_each(|bytes| parts.illegal(bytes));
+    }
+    let (fallback, mut substitute) = (rng.one_in(2), rng.one_in(2));
+    if let Some((bytes, number)) = gen::stop_in_text(rng, t, way) {
+        if !may_be_mark(&parts) {
+            parts.stops(&bytes, number);
+            substitute &= number != 53;
         }
     }
-    let spaces = spaces(rng, output.len());
-    Act::From { scheme, input, spaces, fallback, substitute, known: Some(Outcome { steps, output, number }) }
+    let spaces = parts.spaces(rng);
+    Act::From { scheme, input: parts.input, spaces, fallback, substitute, known: Some(parts.outcomes) }
 }
 
 fn some_items(rng: &mut Rng) -> usize {
     *rng.pick(&[3, 8, 60])
 }
 
-fn to_act(rng: &mut Rng, t: &Table, items: usize) -> Act {
-    let scheme = a_scheme(rng);
-    let input = gen::random_frame(rng, t, items);
+fn to_act(rng: &mut Rng, t: &Table, scheme: Scheme, input: Vec<u8>) -> Act {
     let substitute = rng.one_in(2);
-    let mut output = vec![0; 4 * input.len() + 4];
-    let enough = oracle::to_unicode(t, &input, &mut output, scheme, substitute).written as usize;
-    let spaces = spaces(rng, enough);
+    let (lines, mut output) = (Lines::of(t), vec![0; 4 * input.len() + 4]);
+    let [off, on] = [false, true].map(|skip| {
+        let settings = Settings { fallback: false, substitute, skip };
+        oracle::to_unicode(t, &lines, &input, &mut output, scheme, settings).written as usize
+    });
+    let spaces = spaces(rng, off, on);
     Act::To { scheme, input, spaces, substitute, known: None }
 }
 
-fn from_act(rng: &mut Rng, t: &Table, items: usize) -> Act {
+fn from_act(rng: &mut Rng, t: &Table, scheme: Scheme, input: Vec<u8>) -> Act {
+    let (fallback, substitute) = (rng.one_in(2), rng.one_in(2));
+    let (lines, mut output) = (Lines::of(t), vec![0; 4 * input.len()]);
+    let [off, on] = [false, true].map(|skip| {
+        let settings = Settings { fallback, substitute, skip };
+        oracle::from_unicode(t, &lines, &input, &mut output, scheme, settings).written as usize
+    });
+    let spaces = spaces(rng, off, on);
+    Act::From { scheme, input, spaces, fallback, substitute, known: None }
+}
+
+fn to_random_act(rng: &mut Rng, t: &Table, items: usize) -> Act {
+    let scheme = a_scheme(rng);
+    let input = gen::random_frame(rng, t, items);
+    to_act(rng, t, scheme, input)
+}
+
+fn from_random_act(rng: &mut Rng, t: &Table, items: usize) -> Act {
     let scheme = a_scheme(rng);
     let input = gen::random_text(rng, t, scheme, items);
-    let (fallback, substitute) = (rng.one_in(2), rng.one_in(2));
-    let mut output = vec![0; 4 * input.len()];
-    let enough = oracle::from_unicode(t, &input, &mut output, scheme, fallback, substitute).written as usize;
-    let spaces = spaces(rng, enough);
-    Act::From { scheme, input, spaces, fallback, substitute, known: None }
+    from_act(rng, t, scheme, input)
 }
 
 fn to_random(rng: &mut Rng) -> Input {
     let made = a_table(rng);
     let items = some_items(rng);
-    let act = to_act(rng, &made.table, items);
+    let act = to_random_act(rng, &made.table, items);
     Input::Memory { base: gen::text_of(rng, &made), changes: Vec::new(), lengths: lengths(rng), act }
 }
 
 fn from_random(rng: &mut Rng) -> Input {
     let made = a_table(rng);
     let items = some_items(rng);
-    let act = from_act(rng, &made.table, items);
+    let act = from_random_act(rng, &made.table, items);
+    Input::Memory { base: gen::text_of(rng, &made), changes: Vec::new(), lengths: lengths(rng), act }
+}
+
+/// Half of the time one in which much is illegal and codes are long.
+fn a_fragile_table(rng: &mut Rng) -> Made {
+    match rng.one_in(2) {
+        true => a_table(rng),
+        false => {
+            let max = rng.range(2, 4);
+            gen::narrow_table(rng, max)
+        }
+    }
+}
+
+fn to_damaged(rng: &mut Rng) -> Input {
+    let (made, scheme, items) = (a_fragile_table(rng), a_scheme(rng), some_items(rng));
+    let input = gen::damaged_frame(rng, &made.table, items);
+    let act = to_act(rng, &made.table, scheme, input);
+    Input::Memory { base: gen::text_of(rng, &made), changes: Vec::new(), lengths: lengths(rng), act }
+}
+
+fn from_damaged(rng: &mut Rng) -> Input {
+    let (made, scheme, items) = (a_fragile_table(rng), a_scheme(rng), some_items(rng));
+    let input = gen::damaged_text(rng, &made.table, scheme, items);
+    let act = from_act(rng, &made.table, scheme, input);
     Input::Memory { base: gen::text_of(rng, &made), changes: Vec::new(), lengths: lengths(rng), act }
 }
 
@@ -646,8 +858,8 @@ fn pipe_full(rng: &mut Rng) -> Input {
     let n = *rng.pick(&[500, 2047, 2048]);
     let made = gen::full_table(rng, n);
     let act = match rng.one_in(2) {
-        true => to_act(rng, &made.table, 2000),
-        false => from_act(rng, &made.table, 2000),
+        true => to_random_act(rng, &made.table, 2000),
+        false => from_random_act(rng, &made.table, 2000),
     };
     Input::Memory { base: gen::text_of(rng, &made), changes: Vec::new(), lengths: lengths(rng), act }
 }
@@ -683,8 +895,8 @@ fn act_changed(rng: &mut Rng) -> Input {
     let changes = if rng.one_in(2) { vec![gen::one_change(rng, &made.table)] } else { broken(rng, &made) };
     let items = some_items(rng);
     let mut act = match rng.below(3) {
-        0 => to_act(rng, &made.table, items),
-        1 => from_act(rng, &made.table, items),
+        0 => to_random_act(rng, &made.table, items),
+        1 => from_random_act(rng, &made.table, items),
         _ => audit_act(rng, &made.table),
     };
     if let Act::To { spaces, .. } | Act::From { spaces, .. } = &mut act {
@@ -898,12 +1110,12 @@ pub fn show(input: &Input) -> String {
                 Act::Check { .. } => "  check\n".to_string(),
                 Act::To { scheme, input, spaces, substitute, .. } => format!(
                     "  {}, substitute {substitute}, spaces {spaces:?}, input {}\n",
-                    to_name(*scheme),
+                    call_name("to", *scheme, false),
                     show_hex(input)
                 ),
                 Act::From { scheme, input, spaces, fallback, substitute, .. } => format!(
                     "  {}, fallback {fallback}, substitute {substitute}, spaces {spaces:?}, input {}\n",
-                    from_name(*scheme),
+                    call_name("from", *scheme, false),
                     show_hex(input)
                 ),
                 Act::Audit { fallback, position, pieces, .. } => format!(

@@ -46,6 +46,7 @@ calls! {
         input: *const u8, input_len: usize,
         output: *mut u8, output_len: usize,
         substitute: u32,
+        skip: u32,
         result: *mut u64, result_len: usize,
     );
 
@@ -59,6 +60,7 @@ calls! {
         output: *mut u8, output_len: usize,
         fallback: u32,
         substitute: u32,
+        skip: u32,
         result: *mut u64, result_len: usize,
     );
 
@@ -72,6 +74,7 @@ calls! {
         output: *mut u8, output_len: usize,
         scheme: u32,
         substitute: u32,
+        skip: u32,
         result: *mut u64, result_len: usize,
     );
 
@@ -86,6 +89,7 @@ calls! {
         scheme: u32,
         fallback: u32,
         substitute: u32,
+        skip: u32,
         result: *mut u64, result_len: usize,
     );
 

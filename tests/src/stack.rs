@@ -103,12 +103,18 @@ fn check() -> Result<(), String> {
     })
 }
 
+/// So many sequences, the good and the bad one taking turns, a good one last; with
+/// skipping off only good ones.
+fn turns(n: usize, good: &[u8], bad: &[u8], skip: u32) -> Vec<u8> {
+    (0..n).rev().flat_map(|i| if i % 2 == 1 && skip == 1 { bad } else { good }).copied().collect()
+}
+
 fn to_utf8() -> Result<(), String> {
     over_tables(|record, memory| {
-        for n in [0, 1, 63, 64, 5000] {
-            let (input, mut output, mut result) = (vec![0x3f; n], vec![0; 4 * n], [0; 2]);
+        for (n, skip) in [0, 1, 63, 64, 5000].into_iter().flat_map(|n| [(n, 0), (n, 1)]) {
+            let (input, mut output, mut result) = (turns(n, b"\x3f", b"\xff", skip), vec![0; 4 * n], [0; 3]);
             at_most("to UTF-8", 36 * KIB, &mut || {
-                LINKED.to_utf8(record, memory, &input, &mut output, 1, &mut result);
+                LINKED.to_utf8(record, memory, &input, &mut output, 1, skip, &mut result);
             })?;
             equal("read", result[0], n as u64)?;
         }
@@ -118,10 +124,10 @@ fn to_utf8() -> Result<(), String> {
 
 fn from_utf8() -> Result<(), String> {
     over_tables(|record, memory| {
-        for n in [0, 1, 63, 64, 5000] {
-            let (input, mut output, mut result) = (vec![0x43; n], vec![0; 4 * n], [0; 2]);
+        for (n, skip) in [0, 1, 63, 64, 5000].into_iter().flat_map(|n| [(n, 0), (n, 1)]) {
+            let (input, mut output, mut result) = (turns(n, b"C", b"\xff", skip), vec![0; 4 * n], [0; 3]);
             at_most("from UTF-8", 36 * KIB, &mut || {
-                LINKED.from_utf8(record, memory, &input, &mut output, 1, 1, &mut result);
+                LINKED.from_utf8(record, memory, &input, &mut output, 1, 1, skip, &mut result);
             })?;
             equal("read", result[0], n as u64)?;
         }
@@ -131,10 +137,11 @@ fn from_utf8() -> Result<(), String> {
 
 fn to_unicode() -> Result<(), String> {
     over_tables(|record, memory| {
-        for (scheme, n) in (0..4).flat_map(|scheme| [0, 1, 63, 64, 5000].map(|n| (scheme, n))) {
-            let (input, mut output, mut result) = (vec![0x3f; n], vec![0; 4 * n + 4], [0; 2]);
+        let calls = (0..8).flat_map(|call| [0, 1, 63, 64, 5000].map(|n| (call / 2, call % 2, n)));
+        for (scheme, skip, n) in calls {
+            let (input, mut output, mut result) = (turns(n, b"\x3f", b"\xff", skip), vec![0; 4 * n + 4], [0; 3]);
             at_most(&format!("to Unicode, scheme {scheme}"), 36 * KIB, &mut || {
-                LINKED.to_unicode(record, memory, &input, &mut output, scheme, 1, &mut result);
+                LINKED.to_unicode(record, memory, &input, &mut output, scheme, 1, skip, &mut result);
             })?;
             equal("read", result[0], n as u64)?;
         }
@@ -144,20 +151,21 @@ fn to_unicode() -> Result<(), String> {
 
 fn from_unicode() -> Result<(), String> {
     over_tables(|record, memory| {
-        // A scheme, what stands in front, and a character; the last has a mark.
-        let texts: [(u32, &[u8], &[u8]); 5] = [
-            (0, b"", b"C"),
-            (1, b"", b"\x00\x00\x00C"),
-            (2, b"", b"C\x00\x00\x00"),
-            (3, b"", b"\x00\x00\x00C"),
-            (3, b"\xff\xfe\x00\x00", b"C\x00\x00\x00"),
-        ];
+        // A scheme, what stands in front, and a character with what is none; the last
+        // has a mark.
+        let utf8: [&[u8]; 2] = [b"C", b"\xff"];
+        let big: [&[u8]; 2] = [b"\x00\x00\x00C", b"\x00\x00\xd8\x00"];
+        let little: [&[u8]; 2] = [b"C\x00\x00\x00", b"\x00\xd8\x00\x00"];
+        let mark: &[u8] = b"\xff\xfe\x00\x00";
+        let texts = [(0, &b""[..], utf8), (1, b"", big), (2, b"", little), (3, b"", big), (3, mark, little)];
         let lengths = [0, 1, 15, 16, 63, 64, 5000];
-        for ((scheme, front, character), n) in texts.into_iter().flat_map(|text| lengths.map(|n| (text, n))) {
-            let input = [front, &character.repeat(n)].concat();
-            let (mut output, mut result) = (vec![0; 4 * n], [0; 2]);
+        let calls =
+            texts.into_iter().flat_map(|text| lengths.into_iter().flat_map(move |n| [(text, n, 0), (text, n, 1)]));
+        for ((scheme, front, [good, bad]), n, skip) in calls {
+            let input = [front, &turns(n, good, bad, skip)].concat();
+            let (mut output, mut result) = (vec![0; 4 * n], [0; 3]);
             at_most(&format!("from Unicode, scheme {scheme}"), 36 * KIB, &mut || {
-                LINKED.from_unicode(record, memory, &input, &mut output, scheme, 1, 1, &mut result);
+                LINKED.from_unicode(record, memory, &input, &mut output, scheme, 1, 1, skip, &mut result);
             })?;
             equal("read", result[0], input.len() as u64)?;
         }

@@ -1,6 +1,8 @@
 //! What is tested: the oracle and the library behind one set of calls.
 
-use crate::oracle::{self, Audited, Loaded, Memory, Piped, Record, Scheme};
+use crate::oracle::{self, Audited, Lines, Loaded, Memory, Piped, Record, Scheme, Settings, Table};
+use std::cell::RefCell;
+use std::rc::Rc;
 
 pub trait Subject {
     fn name(&self) -> &'static str;
@@ -17,10 +19,9 @@ pub trait Subject {
         input: &[u8],
         output: &mut [u8],
         scheme: Scheme,
-        substitute: bool,
+        settings: Settings,
     ) -> Piped;
 
-    #[allow(clippy::too_many_arguments)]
     fn from_unicode(
         &self,
         record: &Record,
@@ -28,8 +29,7 @@ pub trait Subject {
         input: &[u8],
         output: &mut [u8],
         scheme: Scheme,
-        fallback: bool,
-        substitute: bool,
+        settings: Settings,
     ) -> Piped;
 
     #[allow(clippy::too_many_arguments)]
@@ -48,7 +48,30 @@ pub trait Subject {
 pub struct Oracle;
 
 /// 60: nothing read or written.
-const PIPE_REFUSED: Piped = Piped { number: 60, read: 0, written: 0 };
+const PIPE_REFUSED: Piped = Piped { number: 60, read: 0, written: 0, length: 0 };
+
+/// What record and memory hold: nothing where the answer is 60.
+type Meaning = Option<Rc<(Table, Lines)>>;
+
+thread_local! {
+    /// The last one, since most calls ask for the same table again.
+    static LAST: RefCell<Option<(Record, Memory, Meaning)>> = const { RefCell::new(None) };
+}
+
+fn meaning(record: &Record, memory: &Memory) -> Meaning {
+    LAST.with_borrow_mut(|last| match last {
+        Some((r, m, meaning)) if r == record && m == memory => meaning.clone(),
+        _ => {
+            let table = oracle::meaning_of(record, memory);
+            let meaning = table.map(|table| {
+                let lines = Lines::of(&table);
+                Rc::new((table, lines))
+            });
+            *last = Some((*record, memory.clone(), meaning.clone()));
+            meaning
+        }
+    })
+}
 
 impl Subject for Oracle {
     fn name(&self) -> &'static str {
@@ -73,10 +96,10 @@ impl Subject for Oracle {
         input: &[u8],
         output: &mut [u8],
         scheme: Scheme,
-        substitute: bool,
+        settings: Settings,
     ) -> Piped {
-        match oracle::meaning_of(record, memory) {
-            Some(table) => oracle::to_unicode(&table, input, output, scheme, substitute),
+        match meaning(record, memory).as_deref() {
+            Some((table, lines)) => oracle::to_unicode(table, lines, input, output, scheme, settings),
             None => PIPE_REFUSED,
         }
     }
@@ -88,11 +111,10 @@ impl Subject for Oracle {
         input: &[u8],
         output: &mut [u8],
         scheme: Scheme,
-        fallback: bool,
-        substitute: bool,
+        settings: Settings,
     ) -> Piped {
-        match oracle::meaning_of(record, memory) {
-            Some(table) => oracle::from_unicode(&table, input, output, scheme, fallback, substitute),
+        match meaning(record, memory).as_deref() {
+            Some((table, lines)) => oracle::from_unicode(table, lines, input, output, scheme, settings),
             None => PIPE_REFUSED,
         }
     }

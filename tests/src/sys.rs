@@ -61,6 +61,7 @@ impl Calls {
         input: &[u8],
         output: &mut [u8],
         substitute: u32,
+        skip: u32,
         result: &mut [u64],
     ) -> u32 {
         with_table!(
@@ -72,6 +73,7 @@ impl Calls {
             output.as_mut_ptr(),
             output.len(),
             substitute,
+            skip,
             result.as_mut_ptr(),
             result.len()
         )
@@ -85,6 +87,7 @@ impl Calls {
         output: &mut [u8],
         fallback: u32,
         substitute: u32,
+        skip: u32,
         result: &mut [u64],
     ) -> u32 {
         with_table!(
@@ -97,6 +100,7 @@ impl Calls {
             output.len(),
             fallback,
             substitute,
+            skip,
             result.as_mut_ptr(),
             result.len()
         )
@@ -110,6 +114,7 @@ impl Calls {
         output: &mut [u8],
         scheme: u32,
         substitute: u32,
+        skip: u32,
         result: &mut [u64],
     ) -> u32 {
         with_table!(
@@ -122,6 +127,7 @@ impl Calls {
             output.len(),
             scheme,
             substitute,
+            skip,
             result.as_mut_ptr(),
             result.len()
         )
@@ -136,6 +142,7 @@ impl Calls {
         scheme: u32,
         fallback: u32,
         substitute: u32,
+        skip: u32,
         result: &mut [u64],
     ) -> u32 {
         with_table!(
@@ -149,6 +156,7 @@ impl Calls {
             scheme,
             fallback,
             substitute,
+            skip,
             result.as_mut_ptr(),
             result.len()
         )

@@ -22,7 +22,7 @@ use Rattle.table.specs.TableK.{kText, tableK}
 use Rattle.table.proofs.GivenText.{given-lent}
 use Rattle.table.proofs.TextCases.{k-loaded}
 use Rattle.convert.specs.Run.{Run}
-use Rattle.convert.specs.Step.{toSequence, toStep, writes, fromStep}
+use Rattle.convert.specs.Step.{toSequence, toPlain, toStep, writes, fromPlain, fromStep}
 use Rattle.convert.specs.Convert.{toRun, fromRun}
 use Rattle.convert.proofs.LoadedText.{to-loaded, from-loaded}
 use Rattle.audit.specs.Audit.{Answer, causeOf, pageableCodes, isPosition, auditOn}
@@ -56,7 +56,7 @@ expected c out = seenAs (c .reply) out
 
 k-cases : map computed cases ≡ map expected cases
 unfolding cases tableK firstOf pageFrom isScalar decodeOne encodeOf encodeIn decodeIn markAt stepsOn cutFrom endKind
-    scan codesFrom before filtered packed unpacked flat same padded toSequence toStep writes fromStep causeOf pageableCodes isPosition auditOn
+    scan codesFrom before filtered packed unpacked flat same padded toSequence toPlain toStep writes fromPlain fromStep causeOf pageableCodes isPosition auditOn
 k-cases = refl
 
 -- and on what the load left

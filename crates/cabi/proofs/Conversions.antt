@@ -5,7 +5,7 @@ use mathlib.Core.List.{List, [], _∷_}
 use Prim.Native.Nat.{ℕ, _<_, _≤_}
 use lib.ListN.{length}
 use Rattle.unicode.specs.declared.scheme.Scheme.{Scheme}
-use Rattle.convert.specs.Run.{Run, convertedOf, putOut, endNumber}
+use Rattle.convert.specs.Run.{Run, convertedOf, putOut, endNumber, endLength}
 use Rattle.convert.specs.declared.Converted.{Converted}
 use Rattle.cabi.specs.Exported.{withNumbers, Answered, unanswered, answeredBy, inScheme, schemeIn, answered}
 use Rattle.cabi.specs.declared.Named.{Named}
@@ -27,11 +27,11 @@ module _ (rec : List ℕ) (n : ℕ) (run : Scheme → Run) (output result : List
   answered-short-record h = answered-parts (unanswered 70 output result) (short-record _ rec result _ _ h)
 
   module _ (h : 7 ≤ length rec) where
-    pub answered-short-result : length result < 2 → Answers 70 output result
+    pub answered-short-result : length result < 3 → Answers 70 output result
     unfolding answered
     answered-short-result k = answered-parts (unanswered 70 output result) (short-result _ rec result _ _ h k)
 
-    module _ (k : 2 ≤ length result) where
+    module _ (k : 3 ≤ length result) where
       by-scheme : (x : Named) → schemeIn n ≡ x → answered rec n run output result ≡ inScheme x run output result
       unfolding answered
       by-scheme x e = long-enough _ rec result _ _ h k ∙ ap (λ (y : Named). inScheme y run output result) e
@@ -42,10 +42,10 @@ module _ (rec : List ℕ) (n : ℕ) (run : Scheme → Run) (output result : List
       -- the run's own answer, output slice and counts
       pub answered-run : (e : Scheme) → schemeIn n ≡ named.Of e → (done : Converted) → done ≡ convertedOf (run e)
           → (r : ℕ) (out res : List ℕ) → r ≡ endNumber (done .end) → out ≡ putOut (run e) output
-          → res ≡ withNumbers (done .read ∷ done .written ∷ []) result → Answers r out res
+          → res ≡ withNumbers (done .read ∷ done .written ∷ endLength (done .end) ∷ []) result → Answers r out res
       answered-run e named-so done is r out res q o w =
           let a = answered-parts (answeredBy (run e) output result) (by-scheme (named.Of e) named-so) in (
             q ∙ ap (λ (x : Converted). endNumber (x .end)) is ∙ a .0,
             o ∙ a .1,
-            w ∙ ap (λ (x : Converted). withNumbers (x .read ∷ x .written ∷ []) result) is ∙ a .2,
+            w ∙ ap (λ (x : Converted). withNumbers (x .read ∷ x .written ∷ endLength (x .end) ∷ []) result) is ∙ a .2,
           )

@@ -16,7 +16,7 @@ use Rattle.table.specs.Valid.{valid}
 use Rattle.table.specs.declared.valid.Record.{Record}
 use Rattle.table.specs.declared.load.Loaded.{Loaded}
 use Rattle.table.specs.declared.states.Code.{Code}
-use Rattle.convert.specs.Run.{Run, putOut, endNumber}
+use Rattle.convert.specs.Run.{Run, putOut, endNumber, runLength}
 use Rattle.convert.specs.Convert.{toTested, fromTested}
 use Rattle.convert.specs.declared.Settings.{Settings}
 use Rattle.audit.specs.Audit.{auditTested, Answer as AuditAnswer}
@@ -40,9 +40,10 @@ recordIn ns =
 abbrev pub isOn : ℕ → Bool
 isOn n = not (eqb n 0)
 
--- the settings that two numbers stand for
-abbrev pub settingsIn : ℕ → ℕ → Settings
-settingsIn fallback substitute = record { fallback = isOn fallback; substitute = isOn substitute }
+-- the settings that three numbers stand for
+abbrev pub settingsIn : ℕ → ℕ → ℕ → Settings
+settingsIn fallback substitute skip =
+    record { fallback = isOn fallback; substitute = isOn substitute; skip = isOn skip }
 
 -- the first where the slice has fewer than n numbers, else the second
 unfoldable pub ifFewer : {A : Type 0} → ℕ → List ℕ → A → A → A
@@ -78,9 +79,9 @@ schemeIn n =
     if eqb n 3 then named.Of scheme.Utf32 else
     named.None
 
--- what a conversion hands back beside its number: bytes read, bytes written
+-- what a conversion hands back beside its number: bytes read, bytes written, the length of the illegal sequence
 abbrev pub runNumbers : Run → List ℕ
-runNumbers r = r .read ∷ length (r .bytes) ∷ []
+runNumbers r = r .read ∷ length (r .bytes) ∷ runLength r ∷ []
 
 -- its number, and the output and the result slice afterwards
 pub record Answered : Type 0 where
@@ -103,17 +104,17 @@ inScheme (named.Of e) run output result = answeredBy (run e) output result
 -- either conversion, by record, scheme, and the output and the result slice before: 70, then 71, then the run
 unfoldable pub answered : List ℕ → ℕ → (Scheme → Run) → List ℕ → List ℕ → Answered
 answered rec n run output result =
-    ifShort 2 rec result (unanswered 70 output result) (inScheme (schemeIn n) run output result)
+    ifShort 3 rec result (unanswered 70 output result) (inScheme (schemeIn n) run output result)
 
 -- oboepond_to_unicode's run, with space for `room` bytes
-abbrev pub toExported : List ℕ → Slices → ℕ → List ℕ → ℕ → Scheme → Run
-toExported rec m substitute input room e =
-    toTested e limits (recordIn rec) m (settingsIn 0 substitute) input room
+abbrev pub toExported : List ℕ → Slices → ℕ → ℕ → List ℕ → ℕ → Scheme → Run
+toExported rec m substitute skip input room e =
+    toTested e limits (recordIn rec) m (settingsIn 0 substitute skip) input room
 
 -- oboepond_from_unicode's run
-abbrev pub fromExported : List ℕ → Slices → ℕ → ℕ → List ℕ → ℕ → Scheme → Run
-fromExported rec m fallback substitute input room e =
-    fromTested e limits (recordIn rec) m (settingsIn fallback substitute) input room
+abbrev pub fromExported : List ℕ → Slices → ℕ → ℕ → ℕ → List ℕ → ℕ → Scheme → Run
+fromExported rec m fallback substitute skip input room e =
+    fromTested e limits (recordIn rec) m (settingsIn fallback substitute skip) input room
 
 -- ## The audit
 

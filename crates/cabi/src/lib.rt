@@ -16,7 +16,7 @@ ghost use Rattle.table.specs.Limits.{limits};
 ghost use Rattle.table.specs.Slices.{slices};
 ghost use Rattle.table.specs.Numbers.{answerNumber};
 ghost use Rattle.table.specs.Load.{givenNumber, loadedBy, given, leftIn};
-ghost use Rattle.convert.specs.Run.{endNumber};
+ghost use Rattle.convert.specs.Run.{endNumber, endLength};
 ghost use Rattle.audit.specs.Audit.{auditedOf, spaceAfter, endingNumber};
 ghost use Rattle.cabi.specs.Exported.{recordIn, ifFewer, ifShort, withNumbers, loadedNumbers, checkNumber};
 ghost use Rattle.cabi.specs.Exported.{schemeIn, answered, toExported, fromExported};
@@ -69,15 +69,17 @@ fn put_numbers(numbers: &[u64], result: &mut [u64])
     }
 }
 
-// Writes the counts of a conversion, and answers its number.
+// Writes the counts of a conversion and the length of the illegal sequence, and answers its number.
 fn put_done(done: Converted, result: &mut [u64]) -> u32
-    requires { ⌜ 2 ≤ length (now result) ⌝ }
+    requires { ⌜ 3 ≤ length (now result) ⌝ }
     ensures { λ r. ⌜ (r ≡ endNumber (done .end))
-        × (now (result .exit) ≡ withNumbers (done .read ∷ done .written ∷ []) (now (result .entry))) ⌝ }
+        × (now (result .exit)
+        ≡ withNumbers (done .read ∷ done .written ∷ endLength (done .end) ∷ []) (now (result .entry))) ⌝ }
 {
-    let numbers = [done.read as u64, done.written as u64];
-    put_numbers(&numbers, result);
     let end = done.end;
+    let illegal = convert::end_length(end);
+    let numbers = [done.read as u64, done.written as u64, illegal as u64];
+    put_numbers(&numbers, result);
     convert::end_number(end)
 }
 
@@ -178,19 +180,20 @@ pub extern "C" fn oboepond_to_unicode(
     output: &mut [u8],
     scheme: u32,
     substitute: u32,
+    skip: u32,
     result: &mut [u64],
 ) -> u32
     ensures { λ r. ⌜ (let m =
         slices (now (states .entry)) (now (codes .entry)) (now (infos .entry)) (now (order .entry)) in
         let old = now (output .entry) in
-        let run = toExported (now (rec .entry)) m substitute (now (input .entry)) (length old) in
+        let run = toExported (now (rec .entry)) m substitute skip (now (input .entry)) (length old) in
         let a = answered (now (rec .entry)) scheme run old (now (result .entry)) in
         (r ≡ a .number) × (now (output .exit) ≡ a .output) × (now (result .exit) ≡ a .result)) ⌝ }
 {
     if rec.len() < RECORD {
         return SHORT;
     }
-    if result.len() < 2 {
+    if result.len() < 3 {
         return SHORT;
     }
     let Named::Of(chosen) = scheme_in(scheme) else {
@@ -200,6 +203,7 @@ pub extern "C" fn oboepond_to_unicode(
     let settings = Settings {
         fallback: false,
         substitute: substitute != 0,
+        skip: skip != 0,
     };
     let done = convert::to_unicode(
         held,
@@ -228,19 +232,20 @@ pub extern "C" fn oboepond_from_unicode(
     scheme: u32,
     fallback: u32,
     substitute: u32,
+    skip: u32,
     result: &mut [u64],
 ) -> u32
     ensures { λ r. ⌜ (let m =
         slices (now (states .entry)) (now (codes .entry)) (now (infos .entry)) (now (order .entry)) in
         let old = now (output .entry) in
-        let run = fromExported (now (rec .entry)) m fallback substitute (now (input .entry)) (length old) in
+        let run = fromExported (now (rec .entry)) m fallback substitute skip (now (input .entry)) (length old) in
         let a = answered (now (rec .entry)) scheme run old (now (result .entry)) in
         (r ≡ a .number) × (now (output .exit) ≡ a .output) × (now (result .exit) ≡ a .result)) ⌝ }
 {
     if rec.len() < RECORD {
         return SHORT;
     }
-    if result.len() < 2 {
+    if result.len() < 3 {
         return SHORT;
     }
     let Named::Of(chosen) = scheme_in(scheme) else {
@@ -250,6 +255,7 @@ pub extern "C" fn oboepond_from_unicode(
     let settings = Settings {
         fallback: fallback != 0,
         substitute: substitute != 0,
+        skip: skip != 0,
     };
     let done = convert::from_unicode(
         held,
@@ -276,12 +282,13 @@ pub extern "C" fn oboepond_to_utf8(
     input: &[u8],
     output: &mut [u8],
     substitute: u32,
+    skip: u32,
     result: &mut [u64],
 ) -> u32
     ensures { λ r. ⌜ (let m =
         slices (now (states .entry)) (now (codes .entry)) (now (infos .entry)) (now (order .entry)) in
         let old = now (output .entry) in
-        let run = toExported (now (rec .entry)) m substitute (now (input .entry)) (length old) in
+        let run = toExported (now (rec .entry)) m substitute skip (now (input .entry)) (length old) in
         let a = answered (now (rec .entry)) 0 run old (now (result .entry)) in
         (r ≡ a .number) × (now (output .exit) ≡ a .output) × (now (result .exit) ≡ a .result)) ⌝ }
 {
@@ -295,6 +302,7 @@ pub extern "C" fn oboepond_to_utf8(
         output,
         UTF8,
         substitute,
+        skip,
         result,
     )
 }
@@ -311,12 +319,13 @@ pub extern "C" fn oboepond_from_utf8(
     output: &mut [u8],
     fallback: u32,
     substitute: u32,
+    skip: u32,
     result: &mut [u64],
 ) -> u32
     ensures { λ r. ⌜ (let m =
         slices (now (states .entry)) (now (codes .entry)) (now (infos .entry)) (now (order .entry)) in
         let old = now (output .entry) in
-        let run = fromExported (now (rec .entry)) m fallback substitute (now (input .entry)) (length old) in
+        let run = fromExported (now (rec .entry)) m fallback substitute skip (now (input .entry)) (length old) in
         let a = answered (now (rec .entry)) 0 run old (now (result .entry)) in
         (r ≡ a .number) × (now (output .exit) ≡ a .output) × (now (result .exit) ≡ a .result)) ⌝ }
 {
@@ -331,6 +340,7 @@ pub extern "C" fn oboepond_from_utf8(
         UTF8,
         fallback,
         substitute,
+        skip,
         result,
     )
 }

@@ -18,7 +18,8 @@ use Rattle.table.proofs.KeptSizes.{kept-short}
 use Rattle.table.proofs.FormTested.{code-length}
 use Rattle.convert.specs.Step.{pointFor, encoded, toStep}
 use Rattle.convert.specs.declared.Settings.{Settings}
-use Rattle.convert.proofs.Steps.{to-complete, to-gives}
+use Rattle.convert.proofs.PlainSteps.{to-complete}
+use Rattle.convert.proofs.Steps.{to-gives, point-kept}
 
 module _ (lim : Limits) (t : Table) (keeps : Keeps lim t) (c : List ℕ) (bytes : AllByte c) (whole : isCode (stepsOf t) 0 c ≡ true) where
   ends : endKind (stepsOf t) 0 c ≡ 0 → ⊥
@@ -41,3 +42,4 @@ module _ (lim : Limits) (t : Table) (keeps : Keeps lim t) (c : List ℕ) (bytes 
       to-gives t settings 0 u (c ++ rest) _
       (to-complete t settings 0 (c ++ rest) (length c) _ (cuts rest)
       ∙ ap (λ (x : List ℕ). pointFor (t .subchar1) (settings .substitute) (length c) (reader x (t .lines))) (take-append-seam c rest))
+      ∙ point-kept (settings .skip) (u .encode 0xfffd) u 0 (t .subchar1) (settings .substitute) (length c) (reader c (t .lines))

@@ -1,8 +1,12 @@
 pub mod Runs
 pub mod Whole
+pub mod PlainSteps
+pub mod Skipping
+pub mod PartsOfFrames
 pub mod Steps
 pub mod Text
 pub mod Schemes
+pub mod SkippedRuns
 mod Marked
 pub mod CompleteCodes
 pub mod ThereAndBack

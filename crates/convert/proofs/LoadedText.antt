@@ -29,7 +29,7 @@ use Rattle.table.specs.Forms.{SameTable}
 use Rattle.table.proofs.InMemory.{SameTable-tableIn, same-reader, same-writer}
 use Rattle.table.proofs.LoadedForm.{LoadedForm, loaded-form}
 use Rattle.convert.specs.Run.{SequenceStep, Run, runOf, endedWith}
-use Rattle.convert.specs.Step.{Written, code, subchar1, nothing, pointFor, onCut, toSequence, encoded, toStep, writes, sub1Bytes, substituted, sentFor, onSequence, fromStep, strict}
+use Rattle.convert.specs.Step.{Written, code, subchar1, nothing, skipping, pointFor, onCut, toSequence, encoded, toPlain, toStep, writes, sub1Bytes, substituted, sentFor, onSequence, fromPlain, fromStep, strict}
 use Rattle.convert.specs.Convert.{markOf, writeIn, readIn, toRun, fromRun, toTested, fromTested}
 use Rattle.convert.specs.Claims.{RoundTrips}
 use Rattle.convert.specs.loops.Laws.{ThereAndBack, RoundTripsByCalls}
@@ -54,8 +54,8 @@ module _ (t u : Table) (s : SameTable u t) (apart : t9 (t .lines) ≡ true) wher
       ap (λ (step : Rows). onCut u (settings .substitute) x (cutOf step row x)) steps-same ∙ cut-same (settings .substitute) x (cutOf (stepsOf t) row x)
 
   to-same : (side : Side) (settings : Settings) → toStep side u settings ≡ toStep side t settings
-  unfolding toStep
-  to-same side settings = λ i row x. encoded side row (sequence-same settings row x i)
+  unfolding toStep toPlain
+  to-same side settings = λ i. skipping (settings .skip) (side .encode 0xfffd) (λ row x. encoded side row (sequence-same settings row x i))
 
   sent-same : (substitute : Bool) (row n : ℕ) (w : Written) → sentFor u substitute row n w ≡ sentFor t substitute row n w
   sent-same substitute row n (code c) = refl
@@ -68,8 +68,9 @@ module _ (t u : Table) (s : SameTable u t) (apart : t9 (t .lines) ≡ true) wher
       ap (sentFor u substitute row n) (writer⇒writes t u fallback c (same-writer t u s apart c)) ∙ sent-same substitute row n (writes t fallback c)
 
   from-same : (side : Side) (settings : Settings) → fromStep side u settings ≡ fromStep side t settings
-  unfolding fromStep
-  from-same side settings = λ i row x. point-same side (settings .fallback) (settings .substitute) row (side .decode x) i
+  unfolding fromStep fromPlain
+  from-same side settings =
+      λ i. skipping (settings .skip) (s .same-subchar i) (λ row x. point-same side (settings .fallback) (settings .substitute) row (side .decode x) i)
 
 -- a memory in the form of a table that keeps the rules
 module _ (t : Table) (p : Proper t) (k : Keeps limits t) (rec : Record) (m : Slices) (f : Form limits t rec m) where

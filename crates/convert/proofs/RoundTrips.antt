@@ -12,7 +12,6 @@ use lib.Dec.{leb}
 use lib.ListN.{length}
 use Rattle.lists.proofs.Cases.{pick-case}
 use Rattle.unicode.specs.Scheme.{Side}
-use Rattle.unicode.specs.declared.utf8.Sequence.the-variants as sequence
 use Rattle.unicode.specs.declared.utf8.Stop.the-variants.{Unassigned}
 use Rattle.table.specs.Limits.{Limits}
 use Rattle.table.specs.States.{isCode}
@@ -28,7 +27,8 @@ use Rattle.convert.specs.loops.Laws.{ThereAndBack}
 use Rattle.convert.specs.declared.RunEnd.the-variants.{AllRead, OutputFull, Stopped}
 use Rattle.convert.proofs.Runs.{run-stop, run-full}
 use Rattle.convert.proofs.Whole.{run-one}
-use Rattle.convert.proofs.Steps.{reader-scalar, from-gives}
+use Rattle.convert.proofs.PlainSteps.{reader-scalar}
+use Rattle.convert.proofs.Steps.{from-gives}
 use Rattle.convert.proofs.CompleteCodes.{some-bytes, few-bytes, code-gives}
 
 all-stopped : Stopped Unassigned ≡ AllRead → ⊥
@@ -63,7 +63,7 @@ module _ (u : Side) (law : LawfulSide u) (lim : Limits) (t : Table) (keeps : Kee
 
     step-back : (w : Written) → writes t fallback (l .point) ≡ w → fromStep u t (strict fallback) 0 text ≡ sentFor t false 0 (length text) w
     step-back w e =
-        from-gives u t (strict fallback) 0 text (sequence.Scalar (l .point) (length text))
+        from-gives u t (strict fallback) 0 text (l .point) (length text)
         (ap (u .decode) (sym (append-nil text)) ∙ law .put-reads (l .point) [] (reader-scalar t c l (keeps .rule6) q))
         ∙ ap (sentFor t false 0 (length text)) e
 

@@ -37,7 +37,8 @@ use Rattle.convert.specs.loops.Laws.{NotFull, spell, RoundTripsByRuns, p
 use Rattle.convert.specs.declared.RunEnd.the-variants.{AllRead}
 use Rattle.convert.specs.declared.Settings.{Settings}
 use Rattle.convert.proofs.Whole.{more-room}
-use Rattle.convert.proofs.Steps.{lawful, to-sound, from-sound}
+use Rattle.convert.proofs.PlainSteps.{lawful}
+use Rattle.convert.proofs.Steps.{to-sound, from-sound}
 use Rattle.convert.proofs.Text.{Spelt, spelt, reads-back, side-enough, spell-flat}
 use Rattle.convert.proofs.Schemes.{writeIn-mark, writeIn-case, writeIn-more, readIn-mark, readIn-more}
 use Rattle.convert.proofs.ThereAndBack.{there, back}

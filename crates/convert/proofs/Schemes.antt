@@ -1,6 +1,6 @@
 -- Writing and reading in a scheme, whatever runs behind the mark: the mark, and then the run in the scheme's side.
 -- writeIn-full, writeIn-mark, writeIn-case   writing, by whether the mark fits     writeIn-more, readIn-more   more space
--- readIn-mark   reading behind the scheme's own mark     mark-chooses, mark-none   plain UTF-32: a mark of either order, none
+-- readIn-case   reading, whatever the mark       readIn-mark   reading behind the scheme's own mark     mark-chooses, mark-none   plain UTF-32: a mark of either order, none
 use mathlib.Core.Path.{_≡_, refl, sym, ap, subst, _∙_}
 use Prim.Native.Nat.{ℕ, _+_, _-_, _≤_, _<_}
 use mathlib.Core.List.{List, [], _++_}
@@ -26,7 +26,7 @@ use Rattle.convert.specs.loops.Laws.{NotFull}
 use Rattle.convert.specs.declared.RunEnd.the-variants.{OutputFull}
 use Rattle.convert.specs.loops.Inner.{LawfulSide}
 use Rattle.convert.proofs.Runs.{after-none}
-use Rattle.convert.proofs.Steps.{utf8-lawful, utf32-lawful}
+use Rattle.convert.proofs.PlainSteps.{utf8-lawful, utf32-lawful}
 
 length-mark : length (markIn Big) ≡ 4
 length-mark = length-encodeIn Big 0xfeff
@@ -95,6 +95,23 @@ module _ (run : Side → List ℕ → ℕ → Run) where
   readIn-mark scheme.Utf32Be s room = sym (after-none (run (utf32 Big) s room))
   readIn-mark scheme.Utf32Le s room = sym (after-none (run (utf32 Little) s room))
   readIn-mark scheme.Utf32 s room = mark-chooses Big s room ∙ ap (λ (n : ℕ). after n [] (run (utf32 Big) s room)) (sym length-mark)
+
+  behind-case : (P : Run → Type 0) (k : Mark) (s : List ℕ) (room : ℕ)
+      → ((u : Side) → LawfulSide u → u .unit ≡ 4 → (s : List ℕ) → P (run u s room))
+      → ((r : Run) → P r → P (after 4 [] r))
+      → P (behindMark k run s room)
+  behind-case P mark.None s room plain behind = plain (utf32 Big) (utf32-lawful Big) refl s
+  behind-case P (mark.Of order) s room plain behind = behind _ (plain (utf32 order) (utf32-lawful order) refl (drop 4 s))
+
+  -- what holds in each side of the scheme, and behind a mark too
+  pub readIn-case : (P : Run → Type 0) (e : Scheme) (s : List ℕ) (room : ℕ)
+      → ((u : Side) → LawfulSide u → u .unit ≡ sideOf e .unit → (s : List ℕ) → P (run u s room))
+      → ((r : Run) → P r → P (after 4 [] r))
+      → P (readIn e run s room)
+  readIn-case P scheme.Utf8 s room plain behind = plain utf8 utf8-lawful refl s
+  readIn-case P scheme.Utf32Be s room plain behind = plain (utf32 Big) (utf32-lawful Big) refl s
+  readIn-case P scheme.Utf32Le s room plain behind = plain (utf32 Little) (utf32-lawful Little) refl s
+  readIn-case P scheme.Utf32 s room plain behind = behind-case P (markAt s) s room plain behind
 
   behind-more : ((u : Side) → LawfulSide u → (s : List ℕ) (room m : ℕ) → NotFull (run u s room) → run u s (room + m) ≡ run u s room)
       → (k : Mark) (s : List ℕ) (room m : ℕ) → NotFull (behindMark k run s room) → behindMark k run s (room + m) ≡ behindMark k run s room

@@ -8,7 +8,6 @@ use lib.ListN.{length, drop, length-drop}
 use Rattle.unicode.specs.Utf8.{Scalar}
 use Rattle.unicode.specs.Scheme.{Side}
 use Rattle.unicode.specs.declared.utf8.Stop.{Stop}
-use Rattle.unicode.specs.declared.utf8.Sequence.the-variants as sequence
 use Rattle.table.specs.Meaning.{Table}
 use Rattle.table.specs.Rules.{t6}
 use Rattle.lists.specs.Tests.{allOf}
@@ -19,7 +18,7 @@ use Rattle.convert.specs.loops.Laws.{NotFull, spell}
 use Rattle.convert.specs.declared.RunEnd.the-variants.{OutputFull, Stopped}
 use Rattle.convert.specs.declared.Settings.{Settings}
 use Rattle.convert.proofs.Runs.{run-stop, run-more, every-run}
-use Rattle.convert.proofs.Steps.{toStep⇒Encoded, to-gives, to-stops, to-scalar, to-sound, four-bytes}
+use Rattle.convert.proofs.Steps.{toStep⇒Encoded, stops-alike, to-sound, four-bytes}
 use Rattle.convert.proofs.Whole.{InputOutput, inputs, outputs, GivesAll, runOf-GivesAll}
 use Rattle.lists.specs.Order.{All as Every}
 use Rattle.convert.specs.loops.Inner.{LawfulSide}
@@ -53,7 +52,7 @@ module _ (u : Side) (t : Table) (settings : Settings) (ok : allOf t6 (t .lines) 
   spelt-stop : (row : ℕ) (s : List ℕ) (room : ℕ) → 0 < length s → (w : Stop) → toStep u t settings row s ≡ stop w → Spells row s room (endedWith (Stopped w) row)
   unfolding spell
   spelt-stop row s room h w e places l =
-      let p = run-stop (toStep codePoints t settings) row s places h w (to-stops t settings row u codePoints s w e) in
+      let p = run-stop (toStep codePoints t settings) row s places h w (stops-alike t settings row u codePoints s w e) in
       record { points = []; rest = []; first = ap (λ (r : Run). r .bytes) p; bytes = refl; scalar = tt; whole = λ f. refl }
 
   spelt-full : (row : ℕ) (s : List ℕ) (room : ℕ) → Spells row s room (endedWith OutputFull row)
@@ -66,10 +65,9 @@ module _ (u : Side) (t : Table) (settings : Settings) (ok : allOf t6 (t .lines) 
       let c = toStep⇒Encoded t settings row u s bs n next e in
       let f = to-sound u t settings .some row s bs n next e in
       let w = to-sound u t settings .within row s bs n next e in
-      let g = to-gives t settings row codePoints s (sequence.Scalar (c .point) n) (c .reads) ∙ ap (give (c .point ∷ []) n) (c .stays) in
-      let p = run-more (toStep codePoints t settings) row s places h (c .point ∷ []) n next g f (omega arith) in
+      let p = run-more (toStep codePoints t settings) row s places h (c .point ∷ []) n next (c .gives codePoints) f (omega arith) in
       subst (λ (x : Run). Spelt u (after n bs r) (x .bytes)) (sym p)
-      (spelt-on u (c .point) n bs r _ (to-scalar t settings row s (c .point) n ok (c .reads)) (c .spelt) (ih (places - 1) (omega (arith, length-drop n s))))
+      (spelt-on u (c .point) n bs r _ (c .scalar ok) (c .spelt) (ih (places - 1) (omega (arith, length-drop n s))))
 
   pub spelt : (s : List ℕ) (row room : ℕ) → Spells row s room (runOf (toStep u t settings) row 0 s room)
   unfolding spell

@@ -7,7 +7,6 @@ use native.Mathlib.Omega.{arith}
 use lib.ListN.{length}
 use Rattle.unicode.specs.Utf8.{Scalar}
 use Rattle.unicode.specs.Scheme.{Side}
-use Rattle.unicode.specs.declared.utf8.Sequence.the-variants as sequence
 use Rattle.table.specs.Limits.{Limits}
 use Rattle.table.specs.Meaning.{Table, Line}
 use Rattle.table.specs.Rules.{Keeps}
@@ -18,7 +17,8 @@ use Rattle.convert.specs.Claims.{RoundTripCode, frameOf, allRead}
 use Rattle.convert.specs.loops.Laws.{spell, pointsOf}
 use Rattle.convert.specs.loops.Inner.{LawfulSide}
 use Rattle.convert.specs.declared.Settings.{Settings}
-use Rattle.convert.proofs.Steps.{reader-scalar, from-gives}
+use Rattle.convert.proofs.PlainSteps.{reader-scalar}
+use Rattle.convert.proofs.Steps.{from-gives}
 use Rattle.convert.proofs.Whole.{InputOutput, inputs, outputs, GivesAll, runOf-GivesAll}
 use Rattle.convert.proofs.CompleteCodes.{some-bytes, code-gives}
 
@@ -38,7 +38,7 @@ module _ (lim : Limits) (t : Table) (keeps : Keeps lim t) (settings : Settings) 
     gives-from h rest =
         let c = h .round-trips .line .point in
         let n = length (u .encode c) in
-        from-gives u t settings 0 (u .encode c ++ rest) (sequence.Scalar c n) (law .put-reads c rest (scalar h))
+        from-gives u t settings 0 (u .encode c ++ rest) c n (law .put-reads c rest (scalar h))
         ∙ ap (sentFor t (settings .substitute) 0 n) (h .round-trips .written)
 
     -- all of them, both ways

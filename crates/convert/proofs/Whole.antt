@@ -6,7 +6,8 @@ use native.Mathlib.Omega.{arith}
 use native.Mathlib.Nat.{add-zero}
 use lib.ListN.{length, drop, length-append, length-drop}
 use lib.Seq.{drop-append-le, drop-append-seam, drop-drop, drop-length}
-use Rattle.convert.specs.Run.{give, SequenceStep, Run, runOf, after, endedWith}
+use Rattle.unicode.specs.declared.utf8.Stop.{Stop}
+use Rattle.convert.specs.Run.{give, stop, SequenceStep, Run, runOf, after, endedWith}
 use Rattle.convert.specs.Claims.{allRead}
 use Rattle.convert.specs.loops.Inner.{Sound}
 use Rattle.convert.specs.loops.Laws.{NotFull, fed}
@@ -19,17 +20,16 @@ abbrev pub resumed : SequenceStep → List ℕ → List ℕ → ℕ → Run → 
 resumed step s t room r = after (r .read) (r .bytes) (runOf step (r .state) 0 (drop (r .read) s ++ t) (room - length (r .bytes)))
 
 module _ (step : SequenceStep) (so : Sound step) where
-  -- more space gives the same, unless the answer was 50
-  pub more-room : (s : List ℕ) (st room m : ℕ) → NotFull (runOf step st 0 s room) → runOf step st 0 s (room + m) ≡ runOf step st 0 s room
-  more-room s st room m =
-      every-run step so (λ st s room r. NotFull r → runOf step st 0 s (room + m) ≡ r)
-      (λ st room f. refl)
-      (λ st s room h w e f. run-stop step st s (room + m) h w e)
+  -- any space that the output fits into gives the same, unless the answer was 50
+  pub room-alike : (s : List ℕ) (st room : ℕ) → let r = runOf step st 0 s room in NotFull r → (m : ℕ) → length (r .bytes) ≤ m → runOf step st 0 s m ≡ r
+  room-alike =
+      every-run step so (λ st s room r. NotFull r → (m : ℕ) → length (r .bytes) ≤ m → runOf step st 0 s m ≡ r)
+      (λ st room f m k. refl)
+      (λ st s room h w e f m k. run-stop step st s m h w e)
       (λ st s room h bs n next e l f. absurd (f refl))
-      (λ st s room h bs n next e l r ih f.
-      let d : room + m - length bs ≡ room - length bs + m = omega arith in
-      run-more step st s (room + m) h bs n next e (so .some st s bs n next e) (omega arith) ∙ rw d (ap (after n bs) (ih f)))
-      s st room
+      (λ st s room h bs n next e l r ih f m k.
+      let d = length-append bs (r .bytes) in
+      run-more step st s m h bs n next e (so .some st s bs n next e) (omega arith) ∙ ap (after n bs) (ih f (m - length bs) (omega arith)))
 
   -- what is written fits
   pub fits : (s : List ℕ) (st room : ℕ) → length (runOf step st 0 s room .bytes) ≤ room
@@ -39,6 +39,10 @@ module _ (step : SequenceStep) (so : Sound step) where
       (λ st s room h w e. omega arith)
       (λ st s room h bs n next e l. omega arith)
       (λ st s room h bs n next e l r ih. omega (arith, length-append bs (r .bytes)))
+
+  -- so does more space
+  pub more-room : (s : List ℕ) (st room m : ℕ) → NotFull (runOf step st 0 s room) → runOf step st 0 s (room + m) ≡ runOf step st 0 s room
+  more-room s st room m f = room-alike s st room f (room + m) (omega (arith, fits s st room))
 
   -- no more is read than there is
   pub reads-within : (s : List ℕ) (st room : ℕ) → runOf step st 0 s room .read ≤ length s
@@ -60,6 +64,16 @@ module _ (step : SequenceStep) (so : Sound step) where
       let w = so .within st s bs n next e in
       let i = ih f in
       omega (arith, length-drop n s))
+
+  -- a stop is that of the sequence at the place read
+  pub stops-there : (s : List ℕ) (st room : ℕ) (w : Stop) → let r = runOf step st 0 s room in r .end ≡ Stopped w → step (r .state) (drop (r .read) s) ≡ stop w
+  stops-there s st room w =
+      every-run step so (λ st s room r. r .end ≡ Stopped w → step (r .state) (drop (r .read) s) ≡ stop w)
+      (λ st room f. absurd (let z : _≡_ {A = ℕ} 0 1 = cc in omega arith))
+      (λ st s room h v e f. let q : v ≡ w = cc in e ∙ ap stop q)
+      (λ st s room h bs n next e l f. absurd (let z : _≡_ {A = ℕ} 0 1 = cc in omega arith))
+      (λ st s room h bs n next e l r ih f. ap (step (r .state)) (sym (drop-drop (r .read) n s)) ∙ ih f)
+      s st room
 
   resumed-none : (h : RunEnd) (s t : List ℕ) (st room : ℕ) → runOf step st 0 (s ++ t) room ≡ resumed step s t room (endedWith h st)
   resumed-none h s t st room =

@@ -1,7 +1,7 @@
 -- What the promised laws of the conversions speak of.
 -- Contents: well-formed output; a text of a scheme read as code points; a code that round-trips (document 01, 'The
--- audit of codes': comes home), by lines; frames of such codes.
-use Prim.Native.Nat.{ℕ}
+-- audit of codes': comes home), by lines; frames of such codes; a frame converted with skipping, in parts.
+use Prim.Native.Nat.{ℕ, _+_, _≤_}
 use mathlib.Core.Path.{_≡_}
 use mathlib.Core.List.{List, [], _∷_, _++_, flatten}
 use mathlib.Core.Bool.{Bool, true}
@@ -81,3 +81,42 @@ pub record RoundTripCode (t : Table) (fallback : Bool) : Type 0 where
 unfoldable pub frameOf : {t : Table} {fallback : Bool} → List (RoundTripCode t fallback) → List ℕ
 frameOf [] = []
 frameOf (h ∷ l) = h .code ++ frameOf l
+
+-- ## A frame converted with skipping, in parts
+
+-- a part without an illegal sequence, what it gives, and the illegal sequence behind it
+pub record Part : Type 0 where
+  pub bytes : List ℕ
+  pub gives : List ℕ
+  pub illegal : List ℕ
+
+-- parts, and the rest behind the last illegal sequence
+abbrev pub inParts : List Part → List ℕ → List ℕ
+inParts [] rest = rest
+inParts (p ∷ l) rest = p .bytes ++ (p .illegal ++ inParts l rest)
+
+-- what they give, `bs` standing for each illegal sequence
+abbrev pub partsGive : List ℕ → List Part → List ℕ → List ℕ
+partsGive bs [] last = last
+partsGive bs (p ∷ l) last = p .gives ++ (bs ++ partsGive bs l last)
+
+-- by a step that does not skip: each part by itself is read whole and gives that, in any space it fits into; behind it
+-- stands an illegal sequence
+abbrev pub PartsStand : SequenceStep → List Part → List ℕ → Type 0
+PartsStand step [] rest = Unit {0}
+PartsStand step (p ∷ l) rest =
+    ((room : ℕ) → length (p .gives) ≤ room → runOf step 0 0 (p .bytes) room ≡ allRead (p .bytes) (p .gives))
+    × (step 0 (p .illegal ++ inParts l rest) ≡ stop (stopped.Illegal (length (p .illegal))))
+    × PartsStand step l rest
+
+-- r, a run that skips on s, in parts: it ends as the rest by itself does, and gives what the parts and the rest do
+pub record InParts (step : SequenceStep) (bs s : List ℕ) (r : Run) : Type 0 where
+  pub parts : List Part
+  pub rest : List ℕ
+  pub joined : s ≡ inParts parts rest
+  pub stand : PartsStand step parts rest
+  pub last : Run
+  pub converts : (room : ℕ) → length (last .bytes) ≤ room → runOf step 0 0 rest room ≡ last
+  pub ends : r .end ≡ last .end
+  pub place : r .read + length rest ≡ length s + last .read
+  pub output : r .bytes ≡ partsGive bs parts (last .bytes)

@@ -1,5 +1,5 @@
 -- A conversion, whatever its step (document 01, 'The two pipes'): what is read and written until all is read, the
--- output does not fit, or a sequence stops it; and the numbers 0, 50, 51, 52, 53 and 60.
+-- output does not fit, or a sequence stops it; the numbers 0, 50, 51, 52, 53 and 60, and the length of what is illegal.
 -- The state is what the step hands on from one sequence to the next (an initial row; always 0 where a table has one).
 use Prim.Native.Nat.{ℕ, zero, suc, _+_, _-_}
 use mathlib.Core.List.{List, [], _∷_, _++_}
@@ -8,6 +8,7 @@ use lib.ListN.{length, drop}
 use Rattle.lists.specs.Pick.{if_then_else_}
 use Rattle.unicode.specs.Utf8.{stopNumber}
 use Rattle.unicode.specs.declared.utf8.Stop.{Stop}
+use Rattle.unicode.specs.declared.utf8.Stop.the-variants as stopped
 use Rattle.convert.specs.declared.RunEnd.{RunEnd}
 use Rattle.convert.specs.declared.RunEnd.the-variants.{AllRead, OutputFull, BadTable, Stopped}
 use Rattle.convert.specs.declared.Converted.{Converted}
@@ -64,3 +65,15 @@ endNumber (Stopped w) = stopNumber w
 -- and of a run, by its end
 abbrev pub runNumber : Run → ℕ
 runNumber r = endNumber (r .end)
+
+-- the length of the illegal sequence that ended a conversion; 0 where none did (document 02, request 3)
+abbrev pub endLength : RunEnd → ℕ
+endLength AllRead = 0
+endLength OutputFull = 0
+endLength BadTable = 0
+endLength (Stopped stopped.CutShort) = 0
+endLength (Stopped (stopped.Illegal n)) = n
+endLength (Stopped stopped.Unassigned) = 0
+
+abbrev pub runLength : Run → ℕ
+runLength r = endLength (r .end)

@@ -1,7 +1,7 @@
 -- What one sequence gives, on either side, by the lines of a table (document 01, 'The two pipes': To UTF-8, From UTF-8,
--- Substitute). The Unicode side is a parameter.
--- Contents: settings; to Unicode: the code point of a code, or its substitute (`toStep`); from Unicode:
--- what a code point is written as, or its substitute (`fromStep`).
+-- Substitute; document 02, request 3: skipping). The Unicode side is a parameter.
+-- Contents: settings; skipping, whatever the step (`skipping`); to Unicode: the code point of a code, or its substitute
+-- (`toStep`); from Unicode: what a code point is written as, or its substitute (`fromStep`).
 use Prim.Native.Nat.{ℕ}
 use mathlib.Core.Path.{_≡_}
 use mathlib.Core.List.{List, [], _∷_}
@@ -31,12 +31,29 @@ use Rattle.convert.specs.declared.WrittenAs.{WrittenAs}
 use Rattle.convert.specs.declared.WrittenAs.the-variants as written
 use Rattle.convert.specs.declared.Settings.{Settings}
 
--- the settings of a conversion that does not substitute, and of one that does, by whether fallback is on
+-- the settings of a conversion that does not substitute, and of one that does, by whether fallback is on; neither skips
 abbrev pub strict : Bool → Settings
-strict fallback = record { fallback = fallback; substitute = false }
+strict fallback = record { fallback = fallback; substitute = false; skip = false }
 
 abbrev pub substituting : Bool → Settings
-substituting fallback = record { fallback = fallback; substitute = true }
+substituting fallback = record { fallback = fallback; substitute = true; skip = false }
+
+-- settings, with skipping on or off
+abbrev pub withSkip : Bool → Settings → Settings
+withSkip skip settings = record { fallback = settings .fallback; substitute = settings .substitute; skip = skip }
+
+-- ## Skipping
+
+-- where skipping is on, an illegal sequence of n bytes gives these bytes; the state stays, and nothing else changes
+abbrev pub skipped : Bool → List ℕ → ℕ → Gives → Gives
+skipped skip bs row (give cs n next) = give cs n next
+skipped skip bs row (stop stopped.CutShort) = stop stopped.CutShort
+skipped skip bs row (stop (stopped.Illegal n)) = if skip then give bs n row else stop (stopped.Illegal n)
+skipped skip bs row (stop stopped.Unassigned) = stop stopped.Unassigned
+
+-- a step with skipping around it
+abbrev pub skipping : Bool → List ℕ → SequenceStep → SequenceStep
+skipping skip bs step row s = skipped skip bs row (step row s)
 
 -- ## To Unicode
 
@@ -74,8 +91,13 @@ abbrev pub encoded : Side → ℕ → Sequence → Gives
 encoded u row (sequence.Scalar c n) = give (u .encode c) n row
 encoded u row (sequence.Stopped w) = stop w
 
+-- the same, given to a side of Unicode, skipping aside
+unfoldable pub toPlain : Side → Table → Settings → SequenceStep
+toPlain u t settings row s = encoded u row (toSequence t settings row s)
+
+-- and where skipping is on U+FFFD for an illegal one
 unfoldable pub toStep : Side → Table → Settings → SequenceStep
-toStep u t settings row s = encoded u row (toSequence t settings row s)
+toStep u t settings = skipping (settings .skip) (u .encode 0xfffd) (toPlain u t settings)
 
 -- ## From Unicode
 
@@ -134,6 +156,10 @@ abbrev pub onSequence : Side → Table → Bool → Bool → ℕ → Sequence �
 onSequence u t fallback substitute row (sequence.Stopped w) = stop (stoppedBy u w)
 onSequence u t fallback substitute row (sequence.Scalar c n) = sentFor t substitute row n (writes t fallback c)
 
--- one sequence of the Unicode side
+-- one sequence of the Unicode side, skipping aside
+unfoldable pub fromPlain : Side → Table → Settings → SequenceStep
+fromPlain u t settings row s = onSequence u t (settings .fallback) (settings .substitute) row (u .decode s)
+
+-- and where skipping is on subchar for an illegal one
 unfoldable pub fromStep : Side → Table → Settings → SequenceStep
-fromStep u t settings row s = onSequence u t (settings .fallback) (settings .substitute) row (u .decode s)
+fromStep u t settings = skipping (settings .skip) (t .subchar) (fromPlain u t settings)

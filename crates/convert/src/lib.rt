@@ -20,6 +20,7 @@ ghost use lib.ListN.{length, take, drop};
 ghost use lib.Seq.{sets};
 ghost use Rattle.lists.specs.Place.{fits, placed};
 ghost use Rattle.unicode.specs.Scheme.{Side, sideOf};
+ghost use Rattle.unicode.specs.declared.utf8.Stop.the-variants as stopped;
 ghost use Rattle.table.specs.Limits.{limits};
 ghost use Rattle.table.specs.Codes.{packed, unpacked, bytesOf};
 ghost use Rattle.table.specs.Meaning.{Table};
@@ -27,9 +28,10 @@ ghost use Rattle.table.specs.Slices.{slices};
 ghost use Rattle.table.specs.Lookup.{lineFound};
 ghost use Rattle.table.specs.Memory.{tableIn, sub1In};
 ghost use Rattle.table.specs.Valid.{valid};
-ghost use Rattle.convert.specs.Run.{Run, after, convertedOf, putOut, endNumber, runNumber};
-ghost use Rattle.convert.specs.Step.{pointFor, toSequence, readAs, pointReadAs, writtenBy, writtenIn};
-ghost use Rattle.convert.specs.Step.{OwnCode, sentFor, stoppedBy, fromStep, substituted};
+ghost use Rattle.convert.specs.Run.{Run, stop, after, convertedOf, putOut};
+ghost use Rattle.convert.specs.Run.{endNumber, runNumber, endLength, runLength};
+ghost use Rattle.convert.specs.Step.{skipped, pointFor, encoded, toStep, readAs, pointReadAs};
+ghost use Rattle.convert.specs.Step.{writtenBy, writtenIn, OwnCode, sentFor, stoppedBy, fromStep, substituted};
 ghost use Rattle.convert.specs.loops.Inner.{sentOf};
 ghost use Rattle.convert.specs.Convert.{markOf, readIn, toSide, fromSide, toRun, fromRun, toTested, fromTested};
 use table::states::TOP;
@@ -71,11 +73,12 @@ pub enum WrittenAs {
     Nothing,
 }
 
-// The settings of a conversion: whether `|1` lines are written (from Unicode only), and whether a substitution
-// character stands for a sequence without a mapping.
+// The settings of a conversion: whether `|1` lines are written (from Unicode only), whether a substitution character
+// stands for a sequence without a mapping, and whether an illegal sequence is skipped, with U+FFFD or subchar for it.
 pub struct Settings {
     pub fallback: bool,
     pub substitute: bool,
+    pub skip: bool,
 }
 
 // The outcome of one sequence of Unicode: a code of the table (its bits and its length) and the count of bytes read,
@@ -100,6 +103,22 @@ pub fn end_number(h: RunEnd) -> u32
         RunEnd::OutputFull => 50,
         RunEnd::BadTable => 60,
         RunEnd::Stopped(stop) => unicode::utf8::stop_number(stop),
+    }
+}
+
+// The length of the illegal sequence that ended a conversion, or 0.
+pub fn end_length(h: RunEnd) -> usize
+    ensures { λ r. ⌜ r ≡ endLength h ⌝ }
+{
+    match h {
+        RunEnd::AllRead => 0,
+        RunEnd::OutputFull => 0,
+        RunEnd::BadTable => 0,
+        RunEnd::Stopped(stop) => match stop {
+            Stop::CutShort => 0,
+            Stop::Illegal(n) => n,
+            Stop::Unassigned => 0,
+        },
     }
 }
 
@@ -185,7 +204,17 @@ fn unassigned(sub1: u32, n: usize, substitute: bool) -> Sequence
     Sequence::Scalar(0xfffd, n)
 }
 
-// One sequence of the table's bytes. The contract covers valid memory only.
+// The outcome of an illegal sequence of n bytes: U+FFFD where it is skipped.
+fn illegal_point(n: usize, skip: bool) -> Sequence
+    ensures { λ r. ⌜ ((u : Side) → encoded u 0 r ≡ skipped skip (u .encode 65533) 0 (stop (stopped.Illegal n))) ⌝ }
+{
+    if skip {
+        return Sequence::Scalar(0xfffd, n);
+    }
+    Sequence::Stopped(Stop::Illegal(n))
+}
+
+// One sequence of the table's bytes, the same on every side of Unicode. The contract covers valid memory only.
 fn to_step(
     rec: Record,
     states: &[u16],
@@ -198,12 +227,12 @@ fn to_step(
     ensures { λ r. ⌜ ((order : List ℕ)
         → let m = slices (now (states .entry)) (now (codes .entry)) (now (infos .entry)) order in
         valid limits rec m ≡ true
-        → r ≡ toSequence (tableIn rec m) settings 0 (now (s .entry))) ⌝ }
+        → (u : Side) → encoded u 0 r ≡ toStep u (tableIn rec m) settings 0 (now (s .entry))) ⌝ }
 {
     match table::states::cut_one(states, 0, s) {
         Cut::Stopped(end) => match end {
             table::states::CutStop::CutShort => Sequence::Stopped(Stop::CutShort),
-            table::states::CutStop::Illegal(n) => Sequence::Stopped(Stop::Illegal(n)),
+            table::states::CutStop::Illegal(n) => illegal_point(n, settings.skip),
         },
         Cut::Complete(n, _) => {
             let bits = pack(s, n);
@@ -261,6 +290,22 @@ fn one_unit(stop: Stop, scheme: Scheme) -> Stop
     }
 }
 
+// What is sent at a stop: subchar for an illegal sequence where it is skipped.
+fn sent_stop(sub: Code, why: Stop, skip: bool) -> Sent
+    ensures { λ r. ⌜ sentOf r ≡ skipped skip (bytesOf sub) 0 (stop why) ⌝ }
+{
+    match why {
+        Stop::CutShort => Sent::Stopped(Stop::CutShort),
+        Stop::Illegal(n) => {
+            if skip {
+                return Sent::Code(sub.bits, sub.len, n);
+            }
+            Sent::Stopped(Stop::Illegal(n))
+        }
+        Stop::Unassigned => Sent::Stopped(Stop::Unassigned),
+    }
+}
+
 // One sequence of Unicode, behind any mark. The contract covers valid memory only.
 fn from_step(
     rec: Record,
@@ -278,7 +323,7 @@ fn from_step(
         → sentOf r ≡ fromStep (sideOf scheme) (tableIn rec m) settings 0 (now (s .entry))) ⌝ }
 {
     match unicode::scheme::decode(scheme, s) {
-        Sequence::Stopped(stop) => Sent::Stopped(one_unit(stop, scheme)),
+        Sequence::Stopped(stop) => sent_stop(rec.subchar, one_unit(stop, scheme), settings.skip),
         Sequence::Scalar(c, n) => {
             let at = hints::hint_at(hints, hints::point_slot(c));
             let found = table::lookup::find_point_near(rec, codes, infos, order, c, at);
@@ -686,7 +731,8 @@ pub fn to_unicode(
         let run = toTested scheme limits rec m settings (now (input .entry)) (length (now (out .entry))) in
         (r ≡ convertedOf run)
         × (now (out .exit) ≡ putOut run (now (out .entry)))
-        × (endNumber (r .end) ≡ runNumber run)) ⌝ }
+        × (endNumber (r .end) ≡ runNumber run)
+        × (endLength (r .end) ≡ runLength run)) ⌝ }
 {
     if !table::valid::memory_valid(rec, states, codes, infos, order) {
         return ended(RunEnd::BadTable, 0, 0);
@@ -721,7 +767,8 @@ pub fn from_unicode(
         let run = fromTested scheme limits rec m settings (now (input .entry)) (length (now (out .entry))) in
         (r ≡ convertedOf run)
         × (now (out .exit) ≡ putOut run (now (out .entry)))
-        × (endNumber (r .end) ≡ runNumber run)) ⌝ }
+        × (endNumber (r .end) ≡ runNumber run)
+        × (endLength (r .end) ≡ runLength run)) ⌝ }
 {
     if !table::valid::memory_valid(rec, states, codes, infos, order) {
         return ended(RunEnd::BadTable, 0, 0);

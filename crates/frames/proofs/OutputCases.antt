@@ -14,7 +14,7 @@ use Rattle.lists.specs.Strings.{same, onto}
 use Rattle.table.specs.Load.{Outcome, accepted, outcomeAt, loadGo, loadOf}
 use Rattle.table.specs.TableK.{kText, tableK}
 use Rattle.table.proofs.TextCases.{k-loaded}
-use Rattle.convert.specs.Step.{toSequence, toStep, writes}
+use Rattle.convert.specs.Step.{toSequence, toPlain, toStep, writes}
 use Rattle.audit.specs.Audit.{causeOf, pageableCodes, plainList}
 use Rattle.frames.specs.Lines.{hexBytes, hexOf, digitsOf, moreDigits, decimalCount, decimalOf, fixedLine, twoNumbers, okLine, refusedLine, answerLine, findingLine, closingLine, allDigits, bytesOfHex, isDash, isHex, parsed}
 use Rattle.frames.specs.Stream.{inputLines}
@@ -24,7 +24,7 @@ use Rattle.table.specs.Text.{linesOf as tableLines, digitOf}
 
 -- the output for table K, opened for computing
 unfoldable forK : List ℕ → List ℕ
-unfolding tableK firstOf entriesFor encodeOf stepsOn cutFrom endKind scan codesFrom flat same toSequence toStep writes causeOf pageableCodes plainList flatten
+unfolding tableK firstOf entriesFor encodeOf stepsOn cutFrom endKind scan codesFrom flat same toSequence toPlain toStep writes causeOf pageableCodes plainList flatten
     hexBytes hexOf digitsOf moreDigits decimalCount decimalOf fixedLine twoNumbers okLine answerLine findingLine closingLine
     digitOf allDigits bytesOfHex isDash isHex parsed onto inputLines findingLines framesOutput auditOutput
 forK input = outputFor (accepted tableK) input

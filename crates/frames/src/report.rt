@@ -25,10 +25,11 @@ pub struct Progress {
     pub put: usize,
 }
 
-// How frames are converted: fallback off, substitute on.
+// How frames are converted: fallback off, substitute on, skipping off.
 const SETTINGS: convert::Settings = convert::Settings {
     fallback: false,
     substitute: true,
+    skip: false,
 };
 
 // Puts the line of a frame. `text` is working space.

@@ -70,11 +70,11 @@ module _ {Post : Out 6 of-to-unicode.ps of-to-unicode.r} (c : ConversionCall Pos
 
 pub to-answers : (c : ToCall)
     → AnswersBy (toTested (schemeOf c) limits (recordGiven c) (slicesGiven c) (settingsOf c) (inputOf c) (length (outputLent c))) c
-to-answers c = record { result = c .post .0; output = c .post .1; number = c .post .2 }
+to-answers c = record { result = c .post .0; output = c .post .1; number = c .post .2; length = c .post .3 }
 
 pub from-answers : (c : FromCall)
     → AnswersBy (fromTested (schemeOf c) limits (recordGiven c) (slicesGiven c) (settingsOf c) (inputOf c) (length (outputLent c))) c
-from-answers c = record { result = c .post .0; output = c .post .1; number = c .post .2 }
+from-answers c = record { result = c .post .0; output = c .post .1; number = c .post .2; length = c .post .3 }
 
 pub to-refuses : (c : ToCall) → valid limits (recordGiven c) (slicesGiven c) ≡ false
     → AnswersBy (endedWith BadTable 0) c × (outputAfter c ≡ outputLent c)

@@ -2,6 +2,7 @@ pub mod Functions
 pub mod LoadCalls
 pub mod Refusals
 pub mod ConversionCalls
+pub mod IllegalCalls
 pub mod AuditCalls
 pub mod FrameCalls
 pub mod PageCalls

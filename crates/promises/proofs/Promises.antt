@@ -14,16 +14,20 @@ use Rattle.table.proofs.ValidLaws as forms
 use Rattle.unicode.proofs.RoundTrip.{utf8-encode-decode}
 use Rattle.unicode.proofs.WellFormed.{decodes-well-formed, cut-short-begins}
 use Rattle.unicode.proofs.FourBytes.{utf32-decodes, utf32-encode-decode, utf32-cut-short, utf32-illegal}
+use Rattle.unicode.specs.Scheme.{sideOf}
+use Rattle.convert.proofs.PlainSteps.{lawful}
+use Rattle.convert.proofs.SkippedRuns as runs
 use Rattle.audit.proofs.Causes as causes
 use Rattle.audit.proofs.Starred.{starred}
 use Rattle.frames.proofs.OutputCases.{k-whole, no-table}
 use Rattle.promises.specs.Calls.{LoadCall, AcceptedAs, leftAfter, ValidCall, recordTested, slicesTested}
 use Rattle.promises.specs.Words.{Words}
-use Rattle.promises.specs.Promises.{Demand1, Demand2, Demand3, Promises}
+use Rattle.promises.specs.Promises.{Demand1, Demand2, Demand3, IllegalSequences, Promises}
 use Rattle.promises.proofs.Functions.{ask-nothing, meet-theirs}
 use Rattle.promises.proofs.LoadCalls as load
 use Rattle.promises.proofs.Refusals as refusals
 use Rattle.promises.proofs.ConversionCalls as conversions
+use Rattle.promises.proofs.IllegalCalls as illegal
 use Rattle.promises.proofs.AuditCalls as audits
 use Rattle.promises.proofs.ProgramCalls as program
 
@@ -117,12 +121,27 @@ demand3 =
       cause-four = causes.cause-four;
     }
 
+illegal-sequences : IllegalSequences
+illegal-sequences =
+    record {
+      to-length-none = λ c. illegal.length-none (c .result .end);
+      from-length-none = λ c. illegal.length-none (c .result .end);
+      takes-in = λ e t settings keeps s bytes n q. runs.to-takes-in (sideOf e) t settings limits keeps s bytes n q;
+      to-length = illegal.to-length;
+      from-length = illegal.from-length;
+      to-never = illegal.to-never;
+      from-never = illegal.from-never;
+      to-parts = λ e. runs.to-parts (sideOf e);
+      from-parts = λ e. runs.from-parts (sideOf e) (lawful e);
+    }
+
 pub promises : Promises
 promises =
     record {
       demand1 = demand1;
       demand2 = demand2;
       demand3 = demand3;
+      illegal-sequences = illegal-sequences;
       starred = starred;
       program = record { whole-output = program.whole-output; no-table = no-table; k-output = k-whole };
     }

@@ -7,20 +7,22 @@ use mathlib.Core.Logic.{_↔_}
 use mathlib.Core.Bool.{Bool, true, false}
 use mathlib.Core.Option.{none, some}
 use mathlib.Core.List.{List, [], _++_, map}
-use lib.ListN.{length}
+use lib.ListN.{length, drop}
 use Rattle.lists.specs.Ascii.{ascii}
 use Rattle.lists.specs.Order.{All, In}
 use Rattle.unicode.specs.Utf8.{Scalar, decodeOne, encodeOf}
 use Rattle.unicode.specs.WellFormed.{StartsWith, Begins}
 use Rattle.unicode.specs.Utf32.{wordIn, encodeIn, decodeIn, markIn}
-use Rattle.unicode.specs.Scheme.{orderedBy}
+use Rattle.unicode.specs.Scheme.{orderedBy, sideOf}
 use Rattle.unicode.specs.declared.utf8.Sequence.the-variants as sequence
 use Rattle.unicode.specs.declared.utf8.Stop.the-variants as stopped
 use Rattle.unicode.specs.declared.utf32.ByteOrder.{ByteOrder}
 use Rattle.unicode.specs.declared.utf32.ByteOrder.the-variants.{Big}
+use Rattle.unicode.specs.declared.scheme.Scheme.{Scheme}
 use Rattle.unicode.specs.declared.scheme.Scheme.the-variants.{Utf32Be, Utf32}
 use Rattle.table.specs.Limits.{Limits, limits}
 use Rattle.table.specs.States.{isCode, endKind}
+use Rattle.table.specs.Illegal.{TakesIn}
 use Rattle.table.specs.Codes.{AllByte}
 use Rattle.table.specs.Meaning.{Line, Table, stepsOf, reader}
 use Rattle.table.specs.Rules.{Keeps}
@@ -35,11 +37,11 @@ use Rattle.table.specs.TableK.{kText}
 use Rattle.table.specs.declared.load.Answer.the-variants.{Accepted, Refused}
 use Rattle.table.specs.declared.load.Refusal.{Refusal}
 use Rattle.table.specs.declared.load.Refusal.the-variants as refusal
-use Rattle.convert.specs.Run.{after, endedWith}
-use Rattle.convert.specs.Step.{code, writes, strict}
-use Rattle.convert.specs.Convert.{markOf, toRun, fromRun, toTested, fromTested}
+use Rattle.convert.specs.Run.{stop, after, endedWith, endNumber, endLength}
+use Rattle.convert.specs.Step.{code, writes, strict, withSkip, toStep, fromStep}
+use Rattle.convert.specs.Convert.{markOf, toSide, fromSide, toRun, fromRun, toTested, fromTested}
 use Rattle.convert.specs.Claims.{WellFormedText, pointsIn, ReadsAs, ReadsAsFirst}
-use Rattle.convert.specs.Claims.{RoundTripCode, frameOf, RoundTrips}
+use Rattle.convert.specs.Claims.{RoundTripCode, frameOf, RoundTrips, InParts}
 use Rattle.convert.specs.declared.RunEnd.the-variants.{AllRead, OutputFull, BadTable}
 use Rattle.convert.specs.declared.Settings.{Settings}
 use Rattle.audit.specs.Audit.{causeOf, completeCodes, entryNumber, auditTested, refused}
@@ -207,6 +209,35 @@ pub record Demand2 : Type 1 where
       → length (inputOf c) ≤ length (outputLent d)
       → writtenBy d ≡ inputOf c
 
+-- ILLEGAL SEQUENCES (document 02, request 3): their length, and a conversion that skips them
+pub record IllegalSequences : Type 1 where
+  -- every answer but 52 has length 0
+  pub to-length-none : (c : ToCall) → (endNumber (c .result .end) ≡ 52 → ⊥) → endLength (c .result .end) ≡ 0
+  pub from-length-none : (c : FromCall) → (endNumber (c .result .end) ≡ 52 → ⊥) → endLength (c .result .end) ≡ 0
+  -- which bytes an illegal sequence of a table takes in, whether it stops the conversion or is skipped
+  pub takes-in : (e : Scheme) (t : Table) (settings : Settings) → Keeps limits t → (s : List ℕ) → AllByte s → (n : ℕ)
+      → toStep (sideOf e) t settings 0 s ≡ stop (stopped.Illegal n) → TakesIn (stepsOf t) 0 (t .max) s n
+  -- 52 towards Unicode, by the rows of the text that was loaded: the sequence is the one at the place read
+  pub to-length : (l : LoadCall) (t : Table) → AcceptedAs l t → (c : ToCall) → OnLoaded l c → AllByte (inputOf c)
+      → endNumber (c .result .end) ≡ 52
+      → TakesIn (stepsOf t) 0 (t .max) (drop (c .result .read) (inputOf c)) (endLength (c .result .end))
+  -- 52 from Unicode: one code unit (1 byte in UTF-8, 4 in UTF-32)
+  pub from-length : (c : FromCall) → endNumber (c .result .end) ≡ 52
+      → endLength (c .result .end) ≡ sideOf (schemeOf c) .unit
+  -- with skipping on 52 is never given
+  pub to-never : (c : ToCall) → settingsOf c .skip ≡ true → endNumber (c .result .end) ≡ 52 → ⊥
+  pub from-never : (c : FromCall) → settingsOf c .skip ≡ true → endNumber (c .result .end) ≡ 52 → ⊥
+  -- behind any mark, with space enough: a frame converted with skipping gives, in parts, what the conversion that does
+  -- not skip gives of each part by itself, with U+FFFD or subchar for each illegal sequence between them
+  pub to-parts : (e : Scheme) (t : Table) (settings : Settings) (s : List ℕ) (room : ℕ)
+      → let u = sideOf e in
+      let r = toSide u t (withSkip true settings) s room in
+      (r .end ≡ OutputFull → ⊥) → InParts (toStep u t (withSkip false settings)) (u .encode 0xfffd) s r
+  pub from-parts : (e : Scheme) (t : Table) (settings : Settings) (s : List ℕ) (room : ℕ)
+      → let u = sideOf e in
+      let r = fromSide u t (withSkip true settings) s room in
+      (r .end ≡ OutputFull → ⊥) → InParts (fromStep u t (withSkip false settings)) (t .subchar) s r
+
 -- DEMAND 3: the audit, over any list of calls
 pub record Demand3 : Type 1 where
   -- given a load that accepted its text, and any list of audit calls (the empty one too) on what it left, under one
@@ -251,6 +282,7 @@ pub record Promises : Type 2 where
   pub demand1 : Demand1
   pub demand2 : Demand2
   pub demand3 : Demand3
+  pub illegal-sequences : IllegalSequences
   -- the starred cases 1 to 8, over the terms of the functions' contracts on what the load of K's text left
   pub starred : Starred
   pub program : TheProgram

@@ -18,7 +18,7 @@ use Rattle.table.specs.declared.states.Code.{Code}
 use Rattle.table.specs.declared.valid.Record.{Record}
 use Rattle.table.specs.declared.load.Refusal.{Refusal}
 use Rattle.table.specs.declared.load.Refusal.the-variants as refusal
-use Rattle.convert.specs.Run.{Run, convertedOf, putOut, endNumber, runNumber}
+use Rattle.convert.specs.Run.{Run, convertedOf, putOut, endNumber, runNumber, endLength, runLength}
 use Rattle.convert.proofs.to_unicode.Kinds as of-to-unicode
 use Rattle.audit.specs.Audit.{Answer, endingNumber, auditNumber, auditedOf, spaceAfter}
 use Rattle.audit.specs.Demand.{AuditCall}
@@ -80,13 +80,14 @@ FindsPoint c =
 
 -- ## The conversions
 
--- a call answers by this run: how it ended, bytes read and written, the number; the output slice has the bytes in
--- front and keeps the rest
+-- a call answers by this run: how it ended, bytes read and written, the number, the length of an illegal sequence; the
+-- output slice has the bytes in front and keeps the rest
 module _ {Post : Out 6 of-to-unicode.ps of-to-unicode.r} where
   pub record AnswersBy (run : Run) (c : ConversionCall Post) : Type 0 where
     pub result : c .result ≡ convertedOf run
     pub output : outputAfter c ≡ putOut run (outputLent c)
     pub number : endNumber (c .result .end) ≡ runNumber run
+    pub length : endLength (c .result .end) ≡ runLength run
 
   -- a call on the record and the slices that a load handed back and left
   abbrev pub OnLoaded : LoadCall → ConversionCall Post → Type 0

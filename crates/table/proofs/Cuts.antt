@@ -1,4 +1,4 @@
--- Cutting is sound and complete, stable under more input; when a sequence is cut short, when it is illegal.
+-- Cutting is sound and complete, stable under more input; when a sequence is cut short. (Illegal sequences: Broken.antt)
 use Prim.Native.Nat.{ℕ, zero, suc, _+_, _-_, _*_, _/_, _%_, _<_, _≤_}
 use mathlib.Core.Path.{_≡_, refl, sym, ap, _∙_}
 use mathlib.Core.Bool.{Bool, true, false}
@@ -8,24 +8,23 @@ use native.Mathlib.Omega.{arith}
 use lib.ListN.{length, getD, take, drop}
 use Rattle.lists.proofs.Laws.{clash, drop-∷, drop-past}
 use Rattle.table.specs.Cells.{Cell, illegal, cellIn}
-use Rattle.table.specs.States.{Rows, stepAt, cutFrom, cutOf, endKind, within, longest}
-use Rattle.table.specs.Meaning.{flat, stepsOn, stepsOf}
+use Rattle.table.specs.States.{Rows, stepAt, brokenLength, cutFrom, cutOf, endKind, longest}
+use Rattle.table.specs.Meaning.{flat, stepsOn}
 use Rattle.table.specs.Codes.{AllByte, unpacked}
-use Rattle.table.specs.loops.CutShort.{allLead, reached}
-use Rattle.table.specs.TableK.{tableK}
+use Rattle.table.specs.Illegal.{allLead}
 use Rattle.table.specs.declared.states.Step.{Step}
 use Rattle.table.specs.declared.states.Step.the-variants.{Illegal, Ends, Leads}
 use Rattle.table.specs.declared.states.CutStop.the-variants as cutStop
 use Rattle.table.specs.declared.states.Cut.{Cut}
 use Rattle.table.specs.declared.states.Cut.the-variants.{Complete, Stopped}
 use Rattle.table.proofs.CellLaws.{cell-ends}
-use Rattle.table.proofs.RowLaws.{onStep, cutFrom-∷, endOn, endKind-∷, ledOn, allLead-∷, reached-∷}
-use Rattle.table.proofs.Depth.{within-row, Agree}
+use Rattle.table.proofs.RowLaws.{onStep, cutFrom-∷, endOn, endKind-∷, ledOn, allLead-∷}
+use Rattle.table.proofs.Depth.{Agree}
 
 -- the next byte of an input, and the end of it
 module _ (step : Rows) (first : ℕ) where
   pub cut-here : (f row k : ℕ) (s : List ℕ) (x : Step) → (f ≡ 0 → ⊥) → k < length s → step row (getD s k 0) ≡ x
-      → cutFrom step first f row k (drop k s) ≡ onStep x k (λ n. cutFrom step first (f - 1) n (k + 1) (drop (k + 1) s))
+      → cutFrom step first f row k (drop k s) ≡ onStep x (brokenLength (step first (getD s k 0)) k) k (λ n. cutFrom step first (f - 1) n (k + 1) (drop (k + 1) s))
   cut-here zero row k s x pos h q = absurd (pos refl)
   cut-here (suc f) row k s x pos h q =
       rw (drop-∷ s k h, sub-one) (cutFrom-∷ step first f row k (getD s k 0) (drop (k + 1) s) x q)
@@ -71,39 +70,25 @@ pub record CutCode (step : Rows) (f row k : ℕ) (s : List ℕ) (m e : ℕ) : Ty
   pub ends : endKind step row (take (m - k) s) ≡ e
   pub kind : 1 ≤ e
 
--- under T3: all bytes but the last lead on, and the last is illegal in the row reached
-pub record IllegalAt (step : Rows) (row k : ℕ) (s : List ℕ) (m : ℕ) : Type 0 where
-  pub some : k < m
-  pub inside : m ≤ k + length s
-  pub lead : allLead step row (take (m - (k + 1)) s) ≡ true
-  pub last : step (reached step row (take (m - (k + 1)) s)) (getD s (m - (k + 1)) 0) ≡ Illegal
-
 -- the laws below at one byte, by what the row says of it
-on-more : (k : ℕ) (x : Step) (go go′ : ℕ → Cut) → ((n : ℕ) → (go n ≡ Stopped cutStop.CutShort → ⊥) → go′ n ≡ go n)
-    → (onStep x k go ≡ Stopped cutStop.CutShort → ⊥) → onStep x k go′ ≡ onStep x k go
-on-more k Illegal go go′ h c = refl
-on-more k (Ends x) go go′ h c = refl
-on-more k (Leads n) go go′ h c = h n c
+on-more : (broken k : ℕ) (x : Step) (go go′ : ℕ → Cut) → ((n : ℕ) → (go n ≡ Stopped cutStop.CutShort → ⊥) → go′ n ≡ go n)
+    → (onStep x broken k go ≡ Stopped cutStop.CutShort → ⊥) → onStep x broken k go′ ≡ onStep x broken k go
+on-more broken k Illegal go go′ h c = refl
+on-more broken k (Ends x) go go′ h c = refl
+on-more broken k (Leads n) go go′ h c = h n c
 
-short-by : (k f : ℕ) (s : List ℕ) (x : Step) (go : ℕ → Cut) (all : ℕ → Bool)
+short-by : (broken k f : ℕ) (s : List ℕ) (x : Step) (go : ℕ → Cut) (all : ℕ → Bool)
     → ((n : ℕ) → go n ≡ Stopped cutStop.CutShort → (all n ≡ true) × (length s < f))
-    → onStep x k go ≡ Stopped cutStop.CutShort → (ledOn x false all ≡ true) × (length s < f)
-short-by k f s Illegal go all ih c = absurd (let z : _≡_ {A = ℕ} 0 1 = cc in omega arith)
-short-by k f s (Ends e) go all ih c = absurd (let z : _≡_ {A = ℕ} 0 1 = cc in omega arith)
-short-by k f s (Leads n) go all ih c = ih n c
+    → onStep x broken k go ≡ Stopped cutStop.CutShort → (ledOn x false all ≡ true) × (length s < f)
+short-by broken k f s Illegal go all ih c = absurd (let z : _≡_ {A = ℕ} 0 1 = cc in omega arith)
+short-by broken k f s (Ends e) go all ih c = absurd (let z : _≡_ {A = ℕ} 0 1 = cc in omega arith)
+short-by broken k f s (Leads n) go all ih c = ih n c
 
-lead-by : (k : ℕ) (x : Step) (go : ℕ → Cut) (all : ℕ → Bool) → ((n : ℕ) → all n ≡ true → go n ≡ Stopped cutStop.CutShort)
-    → ledOn x false all ≡ true → onStep x k go ≡ Stopped cutStop.CutShort
-lead-by k Illegal go all ih c = absurd (clash c refl)
-lead-by k (Ends e) go all ih c = absurd (clash c refl)
-lead-by k (Leads n) go all ih c = ih n c
-
-illegal-by : (k f m : ℕ) (s : List ℕ) (x : Step) (go : ℕ → Cut)
-    → ((n : ℕ) → go n ≡ Stopped (cutStop.Illegal m) → (k + 1 ≤ m) × (m ≤ k + 1 + length s) × (m ≤ k + 1 + f))
-    → onStep x k go ≡ Stopped (cutStop.Illegal m) → (k ≤ m) × (m ≤ k + suc (length s)) × (m ≤ k + suc f)
-illegal-by k f m s Illegal go ih c = let q : k + 1 ≡ m = cc in (omega arith, omega arith, omega arith)
-illegal-by k f m s (Ends e) go ih c = absurd (let z : _≡_ {A = ℕ} 0 1 = cc in omega arith)
-illegal-by k f m s (Leads n) go ih c = let r = ih n c in (omega (arith, r .0), omega (arith, r .1), omega (arith, r .2))
+lead-by : (broken k : ℕ) (x : Step) (go : ℕ → Cut) (all : ℕ → Bool) → ((n : ℕ) → all n ≡ true → go n ≡ Stopped cutStop.CutShort)
+    → ledOn x false all ≡ true → onStep x broken k go ≡ Stopped cutStop.CutShort
+lead-by broken k Illegal go all ih c = absurd (clash c refl)
+lead-by broken k (Ends e) go all ih c = absurd (clash c refl)
+lead-by broken k (Leads n) go all ih c = ih n c
 
 -- a sequence that began in the row `first`
 module _ (step : Rows) (first : ℕ) where
@@ -111,7 +96,7 @@ module _ (step : Rows) (first : ℕ) where
       → ((n : ℕ) → cutFrom step first f n (k + 1) s ≡ Complete m e → CutCode step f n (k + 1) s m e)
       → (x : Step)
       → step row b ≡ x
-      → onStep x k (λ n. cutFrom step first f n (k + 1) s) ≡ Complete m e
+      → onStep x (brokenLength (step first b) k) k (λ n. cutFrom step first f n (k + 1) s) ≡ Complete m e
       → CutCode step (suc f) row k (b ∷ s) m e
   complete-by f row k b s m e h ih Illegal q c = absurd (let z : _≡_ {A = ℕ} 0 1 = cc in omega arith)
   complete-by f row k b s m e h ih (Ends y) q c =
@@ -177,7 +162,7 @@ module _ (step : Rows) (first : ℕ) where
   cut-more (suc f) row k (b ∷ s) t h =
       let e = cutFrom-∷ step first f row k b s (step row b) refl in
       cutFrom-∷ step first f row k b (s ++ t) (step row b) refl
-      ∙ on-more k (step row b) (λ n. cutFrom step first f n (k + 1) s) (λ n. cutFrom step first f n (k + 1) (s ++ t))
+      ∙ on-more (brokenLength (step first b) k) k (step row b) (λ n. cutFrom step first f n (k + 1) s) (λ n. cutFrom step first f n (k + 1) (s ++ t))
       (λ n. cut-more f n (k + 1) s t) (λ c. h (e ∙ c))
       ∙ sym e
 
@@ -190,7 +175,7 @@ module _ (step : Rows) (first : ℕ) where
   cut-short-leads (suc f) row k [] c = (refl, omega arith)
   cut-short-leads (suc f) row k (b ∷ s) c =
       let r =
-      short-by k f s (step row b) (λ n. cutFrom step first f n (k + 1) s) (λ n. allLead step n s)
+      short-by (brokenLength (step first b) k) k f s (step row b) (λ n. cutFrom step first f n (k + 1) s) (λ n. allLead step n s)
       (λ n. cut-short-leads f n (k + 1) s)
       (sym (cutFrom-∷ step first f row k b s (step row b) refl) ∙ c) in
       (allLead-∷ step row b s (step row b) refl ∙ r .0, omega (arith, r .1))
@@ -204,62 +189,18 @@ module _ (step : Rows) (first : ℕ) where
   leads-cut-short (suc f) row k [] a h = refl
   leads-cut-short (suc f) row k (b ∷ s) a h =
       cutFrom-∷ step first f row k b s (step row b) refl
-      ∙ lead-by k (step row b) (λ n. cutFrom step first f n (k + 1) s) (λ n. allLead step n s)
+      ∙ lead-by (brokenLength (step first b) k) k (step row b) (λ n. cutFrom step first f n (k + 1) s) (λ n. allLead step n s)
       (λ n q. leads-cut-short f n (k + 1) s q (omega arith))
       (sym (allLead-∷ step row b s (step row b) refl) ∙ a)
 
-  -- an illegal sequence lies in the input
-  cut-illegal : (f row k : ℕ) (s : List ℕ) (m : ℕ) → cutFrom step first f row k s ≡ Stopped (cutStop.Illegal m)
-      → (k ≤ m) × (m ≤ k + length s) × (m ≤ k + f)
-  unfolding cutFrom
-  cut-illegal zero row k s m c = let q : k ≡ m = cc in (omega arith, omega arith, omega arith)
-  cut-illegal (suc f) row k [] m c = absurd (let z : _≡_ {A = ℕ} 0 1 = cc in omega arith)
-  cut-illegal (suc f) row k (b ∷ s) m c =
-      illegal-by k f m s (step row b) (λ n. cutFrom step first f n (k + 1) s) (λ n. cut-illegal f n (k + 1) s m)
-      (sym (cutFrom-∷ step first f row k b s (step row b) refl) ∙ c)
-
-  last-by : (f row k b : ℕ) (s : List ℕ) (m : ℕ)
-      → ((n : ℕ) → step row b ≡ Leads n → cutFrom step first f n (k + 1) s ≡ Stopped (cutStop.Illegal m)
-      → IllegalAt step n (k + 1) s m)
-      → (x : Step)
-      → step row b ≡ x
-      → onStep x k (λ n. cutFrom step first f n (k + 1) s) ≡ Stopped (cutStop.Illegal m)
-      → IllegalAt step row k (b ∷ s) m
-  unfolding allLead reached
-  last-by f row k b s m ih Illegal q c =
-      let u : k + 1 ≡ m = cc in
-      let w : m - (k + 1) ≡ 0 = omega arith in
-      record { some = omega arith; inside = omega arith; lead = rw w; last = rw w q }
-  last-by f row k b s m ih (Ends e) q c = absurd (let z : _≡_ {A = ℕ} 0 1 = cc in omega arith)
-  last-by f row k b s m ih (Leads n) q c =
-      let r = ih n q c in
-      let p = r .some in
-      let w : m - (k + 1) ≡ suc (m - (k + 1 + 1)) = omega arith in
-      let t = take (m - (k + 1 + 1)) s in
-      record {
-        some = omega arith;
-        inside = omega (arith, r .inside);
-        lead = rw w (allLead-∷ step row b t (Leads n) q ∙ r .lead);
-        last = rw (w, reached-∷ step row b t (Leads n) q) (r .last);
-      }
-
-  cut-illegal-last : (f row k : ℕ) (s : List ℕ) (m : ℕ) → within step f row ≡ true → AllByte s
-      → cutFrom step first f row k s ≡ Stopped (cutStop.Illegal m) → IllegalAt step row k s m
-  unfolding cutFrom within AllByte
-  cut-illegal-last zero row k s m d a c = absurd (clash d refl)
-  cut-illegal-last (suc f) row k [] m d a c = absurd (let z : _≡_ {A = ℕ} 0 1 = cc in omega arith)
-  cut-illegal-last (suc f) row k (b ∷ s) m d a c =
-      last-by f row k b s m (λ n q. cut-illegal-last f n (k + 1) s m (within-row step f row b n d (a .0) q) (a .1))
-      (step row b) refl
-      (sym (cutFrom-∷ step first f row k b s (step row b) refl) ∙ c)
-
 -- rows that agree cut alike and end alike
-on-agree : (k : ℕ) (x : Step) (go go′ : ℕ → Cut)
+on-agree : (broken broken′ k : ℕ) (x : Step) (go go′ : ℕ → Cut)
+    → broken ≡ broken′
     → ((n : ℕ) → x ≡ Leads n → go n ≡ go′ n)
-    → onStep x k go ≡ onStep x k go′
-on-agree k Illegal go go′ h = refl
-on-agree k (Ends e) go go′ h = refl
-on-agree k (Leads n) go go′ h = h n refl
+    → onStep x broken k go ≡ onStep x broken′ k go′
+on-agree broken broken′ k Illegal go go′ e h = ap (λ (m : ℕ). Stopped (cutStop.Illegal m)) e
+on-agree broken broken′ k (Ends y) go go′ e h = refl
+on-agree broken broken′ k (Leads n) go go′ e h = h n refl
 
 end-agree-by : (s : List ℕ) (x : Step) (go go′ : ℕ → ℕ)
     → ((n : ℕ) → x ≡ Leads n → go n ≡ go′ n)
@@ -270,16 +211,18 @@ end-agree-by s (Leads n) go go′ h = h n refl
 
 module _ (rows : ℕ) (a c : Rows) (g : Agree rows a c) where
   pub cut-agree : (first f row k : ℕ) (s : List ℕ)
+      → first < rows
       → row < rows
       → AllByte s
       → cutFrom a first f row k s ≡ cutFrom c first f row k s
   unfolding cutFrom AllByte
-  cut-agree first zero row k s lt all = refl
-  cut-agree first (suc f) row k [] lt all = refl
-  cut-agree first (suc f) row k (b ∷ s) lt all =
+  cut-agree first zero row k s there lt all = refl
+  cut-agree first (suc f) row k [] there lt all = refl
+  cut-agree first (suc f) row k (b ∷ s) there lt all =
       cutFrom-∷ a first f row k b s (a row b) refl
-      ∙ on-agree k (a row b) (λ n. cutFrom a first f n (k + 1) s) (λ n. cutFrom c first f n (k + 1) s)
-      (λ n e. cut-agree first f n (k + 1) s (g .stay row b n lt (all .0) e) (all .1))
+      ∙ on-agree _ _ k (a row b) (λ n. cutFrom a first f n (k + 1) s) (λ n. cutFrom c first f n (k + 1) s)
+      (ap (λ (x : Step). brokenLength x k) (g .same first b there (all .0)))
+      (λ n e. cut-agree first f n (k + 1) s there (g .stay row b n lt (all .0) e) (all .1))
       ∙ sym (cutFrom-∷ c first f row k b s (a row b) (sym (g .same row b lt (all .0))))
 
   pub end-agree : (row : ℕ) (s : List ℕ) → row < rows → AllByte s → endKind a row s ≡ endKind c row s
@@ -300,11 +243,3 @@ pub cut-within : (step : Rows)
 cut-within step z s row n kind e =
     let r = cut-complete step row longest row 0 s n kind z e in
     (r .some, omega (arith, r .few), omega (arith, r .inside))
-
--- table K of document 01: 81 leads on to row 1
-k-cases : (cutOf (stepsOf tableK) 0 (0x81 ∷ 0x7c ∷ 0x33 ∷ []) ≡ Complete 2 1)
-    × (cutOf (stepsOf tableK) 0 (0x81 ∷ []) ≡ Stopped cutStop.CutShort)
-    × (cutOf (stepsOf tableK) 0 (0x81 ∷ 0x2d ∷ 0x33 ∷ []) ≡ Stopped (cutStop.Illegal 2))
-    × (cutOf (stepsOf tableK) 0 [] ≡ Stopped cutStop.CutShort)
-unfolding cutFrom flat stepsOn tableK
-k-cases = (refl, refl, refl, refl)

@@ -43,7 +43,7 @@ module _ (lim : Limits) (rec : Record) (m : Slices) (ok : valid lim rec m ≡ tr
   -- from a row there can be on: the sequence at the front of bytes, how bytes end as a code, and the next complete code
   module _ (row : ℕ) (lt : row < lim .rows) where
     pub cut-held : (s : List ℕ) → AllByte s → cutOf (stepAt (m .states)) row s ≡ cutOf (stepsOf held) row s
-    cut-held s b = cut-agree (lim .rows) (stepAt (m .states)) (stepsOf held) steps-held row longest row 0 s lt b
+    cut-held s b = cut-agree (lim .rows) (stepAt (m .states)) (stepsOf held) steps-held row longest row 0 s lt lt b
 
     pub end-held : (s : List ℕ) → AllByte s → endKind (stepAt (m .states)) row s ≡ endKind (stepsOf held) row s
     end-held s b = end-agree (lim .rows) (stepAt (m .states)) (stepsOf held) steps-held row s lt b

@@ -2,6 +2,7 @@ pub mod CellLaws
 pub mod RowLaws
 pub mod Depth
 pub mod Cuts
+pub mod Broken
 pub mod KeptSizes
 pub mod Packing
 mod Marking

@@ -12,10 +12,10 @@ use Rattle.lists.specs.Order.{All}
 use Rattle.lists.proofs.Laws.{and-yes, and-left, and-right}
 use Rattle.lists.proofs.Choice.{pick-false-false}
 use Rattle.table.specs.Cells.{Cell, cellStep, cellNumber, cellIn, known}
-use Rattle.table.specs.States.{Rows, stepAt, cutFrom, endKind, leadsTo}
+use Rattle.table.specs.States.{Rows, stepAt, brokenLength, cutFrom, endKind, leadsTo}
 use Rattle.lists.specs.Tests.{isEmpty, allOf, someBelow}
 use Rattle.table.specs.loops.LeadMarks.{leadsOn}
-use Rattle.table.specs.loops.CutShort.{allLead, reached}
+use Rattle.table.specs.Illegal.{allLead, reached}
 use Rattle.table.specs.Meaning.{flat, stepsOn}
 use Rattle.table.specs.Memory.{numbersOf}
 use Rattle.lists.specs.Place.{filled}
@@ -92,14 +92,14 @@ length-flat (r ∷ rows) h = let e = length-flat rows (h .1) in let q = h .0 in 
 pub length-numbers : (rows : List (List Cell)) → All (λ r. length r ≡ 256) rows → length (numbersOf rows) ≡ length rows * 256
 length-numbers rows h = length-map (flat rows) cellNumber ∙ length-flat rows h
 
--- one byte of each recursion, by what the row says of it
-abbrev pub onStep : Step → ℕ → (ℕ → Cut) → Cut
-onStep Illegal k go = Stopped (cutStop.Illegal (k + 1))
-onStep (Ends e) k go = Complete (k + 1) e
-onStep (Leads n) k go = go n
+-- one byte of each recursion, by what the row says of it; an illegal sequence has `broken` bytes
+abbrev pub onStep : Step → ℕ → ℕ → (ℕ → Cut) → Cut
+onStep Illegal broken k go = Stopped (cutStop.Illegal broken)
+onStep (Ends e) broken k go = Complete (k + 1) e
+onStep (Leads n) broken k go = go n
 
 pub cutFrom-∷ : (step : Rows) (first f row k b : ℕ) (s : List ℕ) (x : Step) → step row b ≡ x
-    → cutFrom step first (suc f) row k (b ∷ s) ≡ onStep x k (λ n. cutFrom step first f n (k + 1) s)
+    → cutFrom step first (suc f) row k (b ∷ s) ≡ onStep x (brokenLength (step first b) k) k (λ n. cutFrom step first f n (k + 1) s)
 unfolding cutFrom
 cutFrom-∷ step first f row k b s Illegal q = rw (q, cutFrom)
 cutFrom-∷ step first f row k b s (Ends e) q = rw (q, cutFrom)

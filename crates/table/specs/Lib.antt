@@ -1,6 +1,7 @@
 pub mod Limits
 pub mod Cells
 pub mod States
+pub mod Illegal
 pub mod Codes
 pub mod Meaning
 pub mod Rules

@@ -26,6 +26,14 @@ Rows = ℕ → ℕ → Step
 abbrev pub longest : ℕ
 longest = 4
 
+-- how many bytes an illegal sequence has, by what its initial row says of the byte that broke it, behind k others
+-- (document 02, request 3): up to and including that byte, but where it would not be illegal as a first byte, up to it.
+-- (A first byte that breaks is illegal as one: with no others before it, the length is 1.)
+abbrev pub brokenLength : Step → ℕ → ℕ
+brokenLength Illegal k = k + 1
+brokenLength (Ends e) k = k
+brokenLength (Leads n) k = k
+
 -- the sequence at the front of s, which began in the row `first`: from a row on, with f bytes left of the longest and k
 -- read
 unfoldable pub cutFrom : Rows → ℕ → ℕ → ℕ → ℕ → List ℕ → Cut
@@ -33,7 +41,7 @@ cutFrom step first zero row k s = Stopped (cutStop.Illegal k)
 cutFrom step first (suc f) row k [] = Stopped cutStop.CutShort
 cutFrom step first (suc f) row k (b ∷ s) =
     elim (step row b) [
-      | Illegal ↦ Stopped (cutStop.Illegal (k + 1))
+      | Illegal ↦ Stopped (cutStop.Illegal (brokenLength (step first b) k))
       | Ends e ↦ Complete (k + 1) e
       | Leads n ↦ cutFrom step first f n (k + 1) s
     ]

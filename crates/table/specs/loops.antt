@@ -1,6 +1,5 @@
 -- What only loops and proofs need; nothing that is promised speaks of it.
 pub mod Common
-pub mod CutShort
 pub mod LeadMarks
 pub mod Marks
 pub mod Search

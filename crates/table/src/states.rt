@@ -6,7 +6,7 @@ ghost use Prim.Native.Nat.{ℕ, _+_, _-_, _*_, _<_, _≤_};
 ghost use lib.Dec.{ltb};
 ghost use lib.ListN.{length, getD, take, drop};
 ghost use Rattle.table.specs.Limits.{limits, needed};
-ghost use Rattle.table.specs.States.{stepAt, cutFrom, cutOf, endKind};
+ghost use Rattle.table.specs.States.{stepAt, brokenLength, cutFrom, cutOf, endKind};
 ghost use Rattle.table.specs.Codes.{unpacked, bytesOf};
 ghost use Rattle.table.specs.Rules.{t3};
 ghost use Rattle.lists.specs.Tests.{allOf, zeros};
@@ -41,7 +41,8 @@ pub enum Step {
 pub enum CutStop {
     // The input ends inside the sequence. Put more bytes after it and try again.
     CutShort,
-    // No code begins like this. The length goes up to and including the byte that rules it out: skip that many.
+    // No code begins like this. The length goes up to the byte that rules it out, and takes it in where that byte is
+    // illegal as a first byte too: skip that many.
     Illegal(usize),
 }
 
@@ -86,11 +87,23 @@ pub fn step_at(states: &[u16], row: u16, b: u8) -> Step
     Step::Ends(e)
 }
 
-// The rest of a sequence whose first `from` bytes led on to a row, whatever row it began in.
-fn cut_on(states: &[u16], row: u16, s: &[u8], from: usize) -> Cut
+// The length of an illegal sequence from the row `first` on, which byte b broke behind k others.
+fn broken_length(states: &[u16], first: u16, b: u8, k: usize) -> usize
+    requires { ⌜ k ≤ 4 ⌝ }
+    ensures { λ r. ⌜ r ≡ brokenLength (stepAt (now (states .entry)) first b) k ⌝ }
+{
+    match step_at(states, first, b) {
+        Step::Illegal => k + 1,
+        Step::Ends(_) => k,
+        Step::Leads(_) => k,
+    }
+}
+
+// The rest of a sequence that began in the row `first`, and whose first `from` bytes led on to a row.
+fn cut_on(states: &[u16], first: u16, row: u16, s: &[u8], from: usize) -> Cut
     requires { ⌜ from ≤ 4 ⌝ }
     ensures { λ r. ⌜ (let step = stepAt (now (states .entry)) in
-        (first : ℕ) → r ≡ cutFrom step first (4 - from) row from (drop from (now (s .entry)))) ⌝ }
+        r ≡ cutFrom step first (4 - from) row from (drop from (now (s .entry)))) ⌝ }
 {
     let mut at_row = row;
     let mut at = from;
@@ -100,7 +113,7 @@ fn cut_on(states: &[u16], row: u16, s: &[u8], from: usize) -> Cut
         }
         match step_at(states, at_row, s[at]) {
             Step::Illegal => {
-                return Cut::Stopped(CutStop::Illegal(at + 1));
+                return Cut::Stopped(CutStop::Illegal(broken_length(states, first, s[at], at)));
             }
             Step::Ends(e) => {
                 return Cut::Complete(at + 1, e);
@@ -124,7 +137,7 @@ pub fn cut_one(states: &[u16], row: u16, s: &[u8]) -> Cut
     match step_at(states, row, s[0]) {
         Step::Illegal => Cut::Stopped(CutStop::Illegal(1)),
         Step::Ends(e) => Cut::Complete(1, e),
-        Step::Leads(n) => cut_on(states, n, s, 1),
+        Step::Leads(n) => cut_on(states, row, n, s, 1),
     }
 }
 

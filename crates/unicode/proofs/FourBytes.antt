@@ -2,9 +2,9 @@
 -- utf32-encode-decode   a scalar value's four bytes are decoded to it      utf32-decode-encode  and the other way round
 -- utf32-decodes         just that is decoded                               utf32-cut-short      51 is fewer than four bytes
 -- utf32-illegal         52 is a number that is no scalar value             decodeIn⇒Read        what a decoded sequence is
--- utf32-more            more input changes nothing                         formedIn-encodeIn    what is encoded is well formed
+-- utf32-same            behind four bytes nothing matters                  formedIn-encodeIn    what is encoded is well formed
 -- markAt-markIn         a text that begins with a mark has it              mark-begins          a mark is its four bytes
--- markAt⇒long           a text with a mark has four bytes
+-- markAt⇒long           a text with a mark has four bytes                  utf32-long           an illegal number has four bytes
 -- Cited by: docs/PROMISES.md, demand 2.
 use mathlib.Core.Path.{_≡_, refl, sym, ap, subst, _∙_}
 use mathlib.Core.Logic.{_↔_}
@@ -12,7 +12,7 @@ use Prim.Native.Nat.{ℕ, _≤_, _<_}
 use mathlib.Core.List.{List, [], _++_, append-nil}
 use mathlib.Core.Bool.{true, false}
 use native.Mathlib.Omega.{arith}
-use borrow.Author.Tests.{ltb-true, ltb-false, eqb-true, eq-eqb}
+use borrow.Author.Tests.{ltb-true, ltb-false, le-ltb, eqb-true, eq-eqb}
 use lib.Dec.{ltb}
 use lib.ListN.{length, drop, take-append-drop, length-append}
 use lib.Seq.{take-append-le}
@@ -102,13 +102,19 @@ module _ (order : ByteOrder) where
       Illegal : Type 0
       Illegal = (4 ≤ length s) × (Scalar (wordIn order s) → ⊥)
 
-  -- more input changes nothing of what was decoded
-  pub utf32-more : (s t : List ℕ) (c n : ℕ) → decodeIn order s ≡ sequence.Scalar c n → decodeIn order (s ++ t) ≡ sequence.Scalar c n
-  utf32-more s t c n e =
-      let r = decodeIn⇒Read s c n e in
-      let w : wordIn order s ≡ wordIn order (s ++ t) = rw (take-append-le 4 s t (r .long)) in
-      sym (decodeIn-scalar order (s ++ t) (omega (arith, length-append s t, r .long)) c (r .word ∙ w) (Scalar⇒isScalar c (r .scalar)))
-      ∙ ap (sequence.Scalar c) (sym (r .count))
+  -- behind four bytes nothing matters
+  pub utf32-same : (s t : List ℕ) → 4 ≤ length s → decodeIn order (s ++ t) ≡ decodeIn order s
+  unfolding decodeIn
+  utf32-same s t h =
+      let w : wordIn order (s ++ t) ≡ wordIn order s = rw (take-append-le 4 s t h) in
+      rw (le-ltb (length (s ++ t)) 4 (omega (arith, length-append s t)), le-ltb (length s) 4 h, w)
+
+  -- an illegal number has four bytes
+  pub utf32-long : (s : List ℕ) (n : ℕ) → decodeIn order s ≡ sequence.Stopped (stop.Illegal n) → 4 ≤ length s
+  utf32-long s n e =
+      pick-case (λ (x : ℕ). 4 ≤ length s) (ltb (length s) 4) 0 0
+      (λ t. absurd (let q = sym (utf32-cut-short s .1 (ltb-true (length s) 4 t)) ∙ e in let z : _≡_ {A = ℕ} 0 1 = cc in omega arith))
+      (λ t. ltb-false (length s) 4 t)
 
   -- the encoding of a scalar value is one whole well-formed sequence
   pub formedIn-encodeIn : (c : ℕ) → Scalar c → formedIn order (encodeIn order c) ≡ true

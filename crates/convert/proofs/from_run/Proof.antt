@@ -17,7 +17,8 @@ use Rattle.convert.specs.declared.Sent.the-variants as sent
 use Rattle.convert.proofs.CodeBytes.{was-full, was-put}
 use Rattle.convert.proofs.Runs.{Going, run-start, run-turn, ends-all, ends-stop, ends-full}
 use Rattle.lists.proofs.Parts.{take-drop-all}
-use Rattle.convert.proofs.Steps.{lawful, from-sound}
+use Rattle.convert.proofs.PlainSteps.{lawful}
+use Rattle.convert.proofs.Steps.{from-sound}
 use borrow.Author.Needs.{needs}
 use Rattle.convert.proofs.from_run.Statement.{statement}
 use Rattle.convert.proofs.from_run.Tie as tie

@@ -15,7 +15,8 @@ use Rattle.convert.specs.Run.{Run, convertedOf, putOut}
 use Rattle.convert.specs.Convert.{fromSide}
 use Rattle.convert.specs.declared.Converted.{Converted}
 use Rattle.convert.proofs.Marked.{read-behind}
-use Rattle.convert.proofs.Steps.{lawful, from-sound}
+use Rattle.convert.proofs.PlainSteps.{lawful}
+use Rattle.convert.proofs.Steps.{from-sound}
 use Rattle.convert.proofs.Whole.{reads-within}
 use Rattle.convert.proofs.from_scheme.Statement.{statement}
 use Rattle.convert.proofs.from_scheme.Tie as tie

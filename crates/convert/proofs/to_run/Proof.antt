@@ -1,7 +1,7 @@
 -- Invariant: the run from here, after what is read and written, is the whole run. Measure: the input left.
-use mathlib.Core.Path.{_≡_, sym, ap, _∙_}
+use mathlib.Core.Path.{_≡_, sym, ap, subst, _∙_}
 use Prim.Native.Nat.{ℕ, _+_, _-_, _<_}
-use mathlib.Core.List.{List}
+use mathlib.Core.List.{List, [], _∷_}
 use native.Mathlib.Omega.{arith}
 use lib.ListN.{length, drop}
 use Rattle.lists.specs.Order.{All}
@@ -17,10 +17,11 @@ use Rattle.table.specs.Slices.{slices}
 use Rattle.table.specs.Memory.{tableIn}
 use Rattle.table.proofs.ValidLaws.{valid-table}
 use Rattle.convert.specs.Run.{SequenceStep}
-use Rattle.convert.specs.Step.{toSequence, encoded, toStep}
+use Rattle.convert.specs.Step.{encoded, toStep}
+use Rattle.convert.specs.Claims.{codePoints}
 use Rattle.convert.proofs.Runs.{Going, run-start, run-turn, ends-all, ends-stop, ends-full}
 use Rattle.lists.proofs.Parts.{take-drop-all}
-use Rattle.convert.proofs.Steps.{to-sound, to-scalar, to-gives}
+use Rattle.convert.proofs.Steps.{to-sound, toStep⇒Encoded}
 use borrow.Author.Needs.{needs}
 use Rattle.convert.proofs.to_run.Statement.{statement}
 use Rattle.convert.proofs.to_run.Tie as tie
@@ -63,16 +64,17 @@ stepAt d = toStep (sideAt d) (tableAt d) (entry-2 d .args .settings)
 abbrev restAt : tie.After-to-step Inv-loop μ-loop → List ℕ
 restAt d = drop (d .before .before .before .loop .at) (entry-2 d .args .input .now)
 
--- what the rest begins with, and gives
-sequenceAt : (d : tie.After-to-step Inv-loop μ-loop)
-    → d .to-step .result ≡ toSequence (tableAt d) (entry-2 d .args .settings) 0 (restAt d)
-sequenceAt d =
+-- what the rest gives on a side of Unicode
+gaveOn : (d : tie.After-to-step Inv-loop μ-loop) (u : Side) (x : Sequence) → d .to-step .result ≡ x
+    → toStep u (tableAt d) (entry-2 d .args .settings) 0 (restAt d) ≡ encoded u 0 x
+gaveOn d u x e =
     let a = entry-2 d .args in
-    d .to-step .ensures (a .order .now) (entry-2 d .pre)
-    ∙ ap (toSequence (tableAt d) (a .settings) 0) (take-drop-all (a .input .now) (d .before .before .before .loop .at))
+    sym (d .to-step .ensures (a .order .now) (entry-2 d .pre) u
+    ∙ ap (toStep u (tableAt d) (a .settings) 0) (take-drop-all (a .input .now) (d .before .before .before .loop .at)))
+    ∙ ap (encoded u 0) e
 
 gaveAt : (d : tie.After-to-step Inv-loop μ-loop) (x : Sequence) → d .to-step .result ≡ x → stepAt d 0 (restAt d) ≡ encoded (sideAt d) 0 x
-gaveAt d x e = to-gives (tableAt d) (entry-2 d .args .settings) 0 (sideAt d) (restAt d) x (sym (sequenceAt d) ∙ e)
+gaveAt d x e = gaveOn d (sideAt d) x e
 
 -- T6: a scalar value
 scalarAt : (d : tie.After-to-step Inv-loop μ-loop) (x n : ℕ) → d .to-step .result ≡ sequence.Scalar x n → Scalar x
@@ -82,7 +84,10 @@ scalarAt d x n e =
     (λ i. after-shared-slice-known2 d .shared-slice-known2 .given i .fits) in
     let k = valid-table limits (a .rec) (slices (a .states .now) (a .codes .now) (a .infos .now) (a .order .now))
     (entry-2 d .pre) small (omega (arith, entry-2 d .good .0)) in
-    to-scalar (tableAt d) (a .settings) 0 (restAt d) x n (k .1 .rule6) (sym (sequenceAt d) ∙ e)
+    let g = toStep⇒Encoded (tableAt d) (a .settings) 0 codePoints (restAt d) (x ∷ []) n 0 (gaveOn d codePoints (sequence.Scalar x n) e) in
+    let p = g .spelt in
+    let q : g .point ≡ x = cc in
+    subst Scalar q (g .scalar (k .1 .rule6))
 
 -- the turn is over
 nextAt : (c : tie.After-known-told3 Inv-loop μ-loop) → let d = after-sequence2-2 c .before .before in

@@ -5,10 +5,16 @@ use native.Mathlib.Omega.{arith}
 use Rattle.lists.specs.Order.{All}
 use Rattle.lists.proofs.AllPlaces.{All-getD⁺}
 use Rattle.table.specs.States.{stepAt, cutOf}
+use mathlib.Core.Option.{none}
+use Rattle.unicode.specs.declared.utf8.Sequence.the-variants as sequence
+use Rattle.unicode.specs.declared.utf8.Stop.the-variants as stopped
 use Rattle.table.specs.Slices.{slices}
+use Rattle.table.specs.Memory.{tableIn, sub1In}
 use Rattle.table.specs.declared.states.Cut.the-variants as cut
 use Rattle.table.specs.declared.states.CutStop.the-variants as cutStop
 use Rattle.table.proofs.Cuts.{cut-within, no-ends-zero-at}
+use Rattle.convert.specs.Step.{encoded}
+use Rattle.convert.proofs.Steps.{to-gives, point-kept}
 use Rattle.convert.proofs.LookUps.{to-cut, packed-code, to-point, to-nothing}
 use borrow.Author.Needs.{needs}
 use Rattle.convert.proofs.to_step.Statement.{statement}
@@ -43,8 +49,8 @@ pack-requires c κs =
     cut-within (stepAt (a .states .now)) (no-ends-zero-at (a .states .now)) (a .s .now) 0 (k .0 .0) (k .0 .1 .0)
     (sym (c .before .before .before .cut-one .ensures) ∙ k .1) .2
 
-cast-t21 : tie.Need-cast-t21
-cast-t21 c =
+cast-t20 : tie.Need-cast-t20
+cast-t20 c =
     let a = entry (after-n c .before .before) .args in
     let k = after-n c .n .given in
     omega (
@@ -58,17 +64,23 @@ returns c =
     let after-cut-one = c .before .before .before .before .before in
     let a = entry after-cut-one .args in
     let d = after-cut-one in
-    λ order ok. sym (to-cut (a .rec) (slices (a .states .now) (a .codes .now) (a .infos .now) order) ok (a .settings)
-    (a .s .now) (bytesAt d) (cut.Stopped cutStop.CutShort)
-    (sym (d .cut-one .ensures) ∙ c .before .before .before .end .given .1 ∙ ap cut.Stopped (c .enum-told .given .1)))
+    λ order ok u.
+    let m = slices (a .states .now) (a .codes .now) (a .infos .now) order in
+    sym (to-gives (tableIn (a .rec) m) (a .settings) 0 u (a .s .now) (sequence.Stopped stopped.CutShort)
+    (to-cut (a .rec) m ok (a .settings) (a .s .now) (bytesAt d) (cut.Stopped cutStop.CutShort)
+    (sym (d .cut-one .ensures) ∙ c .before .before .before .end .given .1 ∙ ap cut.Stopped (c .enum-told .given .1))))
 
 returns-2 : tie.Need-returns-2
 returns-2 c =
-    let a = entry (after-end c .before .before) .args in
-    let d = after-end c .before .before in
-    λ order ok. sym (to-cut (a .rec) (slices (a .states .now) (a .codes .now) (a .infos .now) order) ok (a .settings)
-    (a .s .now) (bytesAt d) (cut.Stopped (cutStop.Illegal (c .before .end2 .given .0 .0)))
-    (sym (d .cut-one .ensures) ∙ after-end c .end .given .1 ∙ ap cut.Stopped (c .before .end2 .given .1)))
+    let k = c .before .before .end2 .given in
+    let d = after-end (c .before) .before .before in
+    let a = entry d .args in
+    λ order ok u.
+    let m = slices (a .states .now) (a .codes .now) (a .infos .now) order in
+    c .illegal-point .ensures u
+    ∙ sym (to-gives (tableIn (a .rec) m) (a .settings) 0 u (a .s .now) (sequence.Stopped (stopped.Illegal (k .0 .0)))
+    (to-cut (a .rec) m ok (a .settings) (a .s .now) (bytesAt d) (cut.Stopped (cutStop.Illegal (k .0 .0)))
+    (sym (d .cut-one .ensures) ∙ after-end (c .before) .end .given .1 ∙ ap cut.Stopped (k .1))))
 
 returns-3 : tie.Need-returns-3
 returns-3 c =
@@ -79,10 +91,12 @@ returns-3 c =
     let f = c .before .before .before .before .find-code-near in
     let r = c .before .before .before .read-as in
     let e : cutOf (stepAt (a .states .now)) 0 (a .s .now) ≡ cut.Complete (k .0 .0) (k .0 .1 .0) = sym (d .cut-one .ensures) ∙ k .1 in
-    λ order ok. sym (to-point (a .rec) (slices (a .states .now) (a .codes .now) (a .infos .now) order) ok
-    (a .settings) (a .s .now) (bytesAt d) (k .0 .0) (k .0 .1 .0) e
+    λ order ok u.
+    let m = slices (a .states .now) (a .codes .now) (a .infos .now) order in
+    sym (to-gives (tableIn (a .rec) m) (a .settings) 0 u (a .s .now) (sequence.Scalar (c .before .c .given .0 .0) (k .0 .0))
+    (to-point (a .rec) m ok (a .settings) (a .s .now) (bytesAt d) (k .0 .0) (k .0 .1 .0) e
     (record { bits = p .result; len = k .0 .0 }) (packed-code (a .states .now) (a .s .now) (k .0 .0) (k .0 .1 .0) (p .result) e (p .ensures))
-    (f .result) (f .ensures) (r .result) (r .ensures) (c .before .c .given .0 .0) (c .before .c .given .1))
+    (f .result) (f .ensures) (r .result) (r .ensures) (c .before .c .given .0 .0) (c .before .c .given .1)))
 
 returns-4 : tie.Need-returns-4
 returns-4 c =
@@ -93,16 +107,19 @@ returns-4 c =
     let f = c .before .before .before .before .find-code-near in
     let r = c .before .before .before .read-as in
     let e : cutOf (stepAt (a .states .now)) 0 (a .s .now) ≡ cut.Complete (k .0 .0) (k .0 .1 .0) = sym (d .cut-one .ensures) ∙ k .1 in
-    λ order ok. c .unassigned .ensures
-    ∙ sym (to-nothing (a .rec) (slices (a .states .now) (a .codes .now) (a .infos .now) order) ok (a .settings)
-    (a .s .now) (bytesAt d) (k .0 .0) (k .0 .1 .0) e
+    λ order ok u.
+    let m = slices (a .states .now) (a .codes .now) (a .infos .now) order in
+    ap (encoded u 0) (c .unassigned .ensures)
+    ∙ sym (to-gives (tableIn (a .rec) m) (a .settings) 0 u (a .s .now) _
+    (to-nothing (a .rec) m ok (a .settings) (a .s .now) (bytesAt d) (k .0 .0) (k .0 .1 .0) e
     (record { bits = p .result; len = k .0 .0 }) (packed-code (a .states .now) (a .s .now) (k .0 .0) (k .0 .1 .0) (p .result) e (p .ensures))
     (f .result) (f .ensures) (r .result) (r .ensures) (c .before .enum-told2 .given .1))
+    ∙ point-kept (a .settings .skip) (u .encode 0xfffd) u 0 (sub1In (a .rec .subchar1)) (a .settings .substitute) (k .0 .0) none)
 
 pub to-step-spec : {M : Type 1} → statement M
 to-step-spec =
     tie.close
     (tie.spec (λ c κs. search needs) (λ c. search needs) (λ c. search needs) (λ c. search needs)
-    (λ c. search needs) pack-requires (λ c κs. search needs) (λ c κs. search needs) cast-t21
+    (λ c κs. search needs) (λ c. search needs) pack-requires (λ c κs. search needs) (λ c κs. search needs) cast-t20
     (λ c κs. search needs) (λ c κs. search needs) (λ c. search needs) (λ c. search needs)
     (λ c κs. search needs) returns returns-2 returns-3 returns-4)

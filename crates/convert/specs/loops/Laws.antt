@@ -1,20 +1,25 @@
 -- What the laws of conversions speak of on the way to the promises: an output that did not fill up, an input fed in
--- pieces, code points spelt out, the round trip of a code by runs and by the terms of the contracts.
-use Prim.Native.Nat.{ℕ, _-_}
+-- pieces, code points spelt out, the round trip of a code by runs and by the terms of the contracts, a conversion that
+-- skips, split at an illegal sequence.
+use Prim.Native.Nat.{ℕ, _+_, _-_}
 use mathlib.Core.Path.{_≡_}
 use mathlib.Core.List.{List, [], _∷_, _++_}
 use mathlib.Core.Bool.{Bool}
+use lib.Dec.{leb}
 use lib.ListN.{length, drop}
+use Rattle.lists.specs.Pick.{if_then_else_}
 use Rattle.unicode.specs.Scheme.{Side}
 use Rattle.unicode.specs.declared.scheme.Scheme.{Scheme}
 use Rattle.table.specs.Limits.{limits}
 use Rattle.table.specs.Meaning.{Table}
 use Rattle.table.specs.Slices.{Slices}
 use Rattle.table.specs.declared.valid.Record.{Record}
-use Rattle.convert.specs.Run.{SequenceStep, Run, after, runOf}
+use Rattle.convert.specs.Run.{SequenceStep, Run, after, endedWith, runOf}
 use Rattle.convert.specs.Step.{strict}
 use Rattle.convert.specs.Convert.{toRun, fromRun, toTested, fromTested}
-use Rattle.convert.specs.declared.RunEnd.the-variants.{AllRead, OutputFull}
+use Rattle.unicode.specs.declared.utf8.Stop.the-variants as stopped
+use Rattle.convert.specs.declared.RunEnd.{RunEnd}
+use Rattle.convert.specs.declared.RunEnd.the-variants.{AllRead, OutputFull, BadTable, Stopped}
 use Rattle.convert.specs.Claims.{RoundTripCode}
 
 -- the output did not fill up
@@ -56,3 +61,24 @@ RoundTripsByCalls e rec m fallback =
 unfoldable pub pointsOf : {t : Table} {fallback : Bool} → List (RoundTripCode t fallback) → List ℕ
 pointsOf [] = []
 pointsOf (h ∷ l) = h .round-trips .line .point ∷ pointsOf l
+
+-- a conversion that skips, by what the one that does not, r, came to on s with space for `room` bytes: the same where r
+-- did not end at an illegal sequence; else the bytes `bs` for that sequence, if they fit, and then `skips`, the
+-- conversion that skips, of what is behind it
+abbrev pub splitBy : SequenceStep → List ℕ → List ℕ → ℕ → Run → RunEnd → Run
+splitBy skips bs s room r (Stopped (stopped.Illegal n)) =
+    let left = room - length (r .bytes) in
+    let rest = runOf skips (r .state) 0 (drop (r .read + n) s) (left - length bs) in
+    after (r .read) (r .bytes) (if leb (length bs) left then after n bs rest else endedWith OutputFull (r .state))
+splitBy skips bs s room r (Stopped stopped.CutShort) = r
+splitBy skips bs s room r (Stopped stopped.Unassigned) = r
+splitBy skips bs s room r AllRead = r
+splitBy skips bs s room r OutputFull = r
+splitBy skips bs s room r BadTable = r
+
+abbrev pub splitAt : SequenceStep → List ℕ → List ℕ → ℕ → Run → Run
+splitAt skips bs s room r = splitBy skips bs s room r (r .end)
+
+-- the part of s that a run read, converted by itself
+abbrev pub wholePart : Run → Run
+wholePart r = record { end = AllRead; read = r .read; bytes = r .bytes; state = r .state }

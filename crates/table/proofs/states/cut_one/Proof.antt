@@ -1,9 +1,12 @@
 -- The first byte by one step of the definition (cut-here), the rest by cut_on.
 use Rattle.table.proofs.Cuts.{cut-here, cut-end}
 use Rattle.table.specs.declared.states.Step.the-variants.{Illegal, Ends, Leads}
-use Rattle.table.specs.States.{stepAt}
+use Rattle.table.specs.States.{stepAt, brokenLength}
+use Rattle.table.specs.declared.states.Step.{Step}
+use Rattle.table.specs.declared.states.Cut.the-variants.{Stopped}
+use Rattle.table.specs.declared.states.CutStop.the-variants as cutStop
 use native.Mathlib.Omega.{arith}
-use mathlib.Core.Path.{sym, _∙_}
+use mathlib.Core.Path.{sym, ap, _∙_}
 use borrow.Author.Needs.{needs}
 use Rattle.table.proofs.states.cut_one.Statement.{statement}
 use Rattle.table.proofs.states.cut_one.Tie as tie
@@ -19,8 +22,9 @@ returns c =
 returns-2 : tie.Need-returns-2
 returns-2 c =
     let a = entry (c .before .before) .args in
-    sym (cut-here (stepAt (a .states .now)) (a .row) 4 (a .row) 0 (a .s .now) Illegal (λ e. omega arith)
-    (omega arith) (sym (c .before .before .step-at .ensures) ∙ c .enum-told .given .1))
+    let q = sym (c .before .before .step-at .ensures) ∙ c .enum-told .given .1 in
+    sym (cut-here (stepAt (a .states .now)) (a .row) 4 (a .row) 0 (a .s .now) Illegal (λ e. omega arith) (omega arith) q
+    ∙ ap (λ (x : Step). Stopped (cutStop.Illegal (brokenLength x 0))) q)
 
 returns-3 : tie.Need-returns-3
 returns-3 c =
@@ -32,7 +36,7 @@ returns-4 : tie.Need-returns-4
 returns-4 c =
     let after-step-at = c .before .before .before .before in
     let a = entry after-step-at .args in
-    c .cut-on .ensures (a .row)
+    c .cut-on .ensures
     ∙ sym (cut-here (stepAt (a .states .now)) (a .row) 4 (a .row) 0 (a .s .now)
     (Leads (c .before .before .n .given .0 .0)) (λ e. omega arith) (omega arith)
     (sym (after-step-at .step-at .ensures) ∙ c .before .before .n .given .1))
