@@ -16,22 +16,15 @@ use Rattle.convert.specs.declared.RunEnd.{RunEnd}
 use Rattle.convert.specs.declared.RunEnd.the-variants.{AllRead, OutputFull, BadTable, Stopped}
 use Rattle.convert.specs.loops.Inner.{Sound, Settled, GivesAlone, Stays}
 use Rattle.convert.specs.loops.Laws.{NotFull, splitBy}
-use Rattle.convert.proofs.Runs.{every-run}
-use Rattle.convert.proofs.Whole.{room-alike, reads-within, stops-there}
+use Rattle.convert.proofs.Whole.{room-alike, reads-within, stops-there, state-stays}
 use Rattle.convert.proofs.Skipping.{skipping-splits, part-alone}
 
 module _ (bs : List ℕ) (step : SequenceStep) (so : Sound step) (se : Settled step) (alone : GivesAlone step) (stays : Stays step) where
   abbrev skips : SequenceStep
   skips = skipping true bs step
 
-  -- the state stays
-  state-stays : (s : List ℕ) (st room : ℕ) → runOf step st 0 s room .state ≡ st
-  state-stays =
-      every-run step so (λ st s room r. r .state ≡ st)
-      (λ st room. refl)
-      (λ st s room h w e. refl)
-      (λ st s room h cs n next e l. refl)
-      (λ st s room h cs n next e l r ih. ih ∙ sym (stays st s cs n next e))
+  state : (s : List ℕ) (room : ℕ) → runOf step 0 0 s room .state ≡ 0
+  state s room = state-stays step so stays s 0 room
 
   module _ (s : List ℕ) (room : ℕ) where
     -- the run that does not skip
@@ -64,7 +57,7 @@ module _ (bs : List ℕ) (step : SequenceStep) (so : Sound step) (se : Settled s
       behind = drop (plain .read + n) s
 
       there : step 0 (drop (plain .read) s) ≡ stop (stopped.Illegal n)
-      there = ap (λ (st : ℕ). step st (drop (plain .read) s)) (sym (state-stays s 0 room)) ∙ stops-there step so s 0 room (stopped.Illegal n) q
+      there = ap (λ (st : ℕ). step st (drop (plain .read) s)) (sym (state s room)) ∙ stops-there step so s 0 room (stopped.Illegal n) q
 
       some : 0 < n
       some = se .illegal-some 0 (drop (plain .read) s) n there
@@ -78,7 +71,7 @@ module _ (bs : List ℕ) (step : SequenceStep) (so : Sound step) (se : Settled s
       part-whole : runOf step 0 0 (take (plain .read) s) room ≡ allRead (take (plain .read) s) (plain .bytes)
       part-whole =
           part-alone step so alone s 0 room
-          ∙ (λ i. record { end = AllRead; read = sym (length-take-le (plain .read) s within) i; bytes = plain .bytes; state = state-stays s 0 room i })
+          ∙ (λ i. record { end = AllRead; read = sym (length-take-le (plain .read) s within) i; bytes = plain .bytes; state = state s room i })
 
       part-converts : (m : ℕ) → length (plain .bytes) ≤ m → runOf step 0 0 (take (plain .read) s) m ≡ allRead (take (plain .read) s) (plain .bytes)
       part-converts m l =
@@ -125,7 +118,7 @@ module _ (bs : List ℕ) (step : SequenceStep) (so : Sound step) (se : Settled s
           let e = skipping-splits bs step so se s 0 room ∙ ap (splitBy skips bs s room plain) q in
           let z : after (plain .read) (plain .bytes) (after n bs (runOf skips (plain .state) 0 behind room′))
           ≡ after (plain .read) (plain .bytes) (after n bs (runOf skips 0 0 behind room′)) =
-          ap (λ (st : ℕ). after (plain .read) (plain .bytes) (after n bs (runOf skips st 0 behind room′))) (state-stays s 0 room) in (
+          ap (λ (st : ℕ). after (plain .read) (plain .bytes) (after n bs (runOf skips st 0 behind room′))) (state s room) in (
             room′,
             pick-case (λ (r : Run). runOf skips 0 0 s room ≡ after (plain .read) (plain .bytes) r
                 → runOf skips 0 0 s room ≡ after (plain .read) (plain .bytes) (after n bs (runOf skips 0 0 behind room′)))

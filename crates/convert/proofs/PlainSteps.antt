@@ -287,19 +287,12 @@ to-scalar t settings row s c n ok e =
     (sym (to-complete t settings row s n (r .kind) (r .whole)) ∙ e)
 
 -- FROM UNICODE
-sent-count : (t : Table) (substitute : Bool) (row m : ℕ) (w : Written) (bs : List ℕ) (n next : ℕ) → sentFor t substitute row m w ≡ give bs n next → m ≡ n
-sent-count t substitute row m (code c) bs n next e = cc
-sent-count t true row m subchar1 bs n next e = cc
-sent-count t false row m subchar1 bs n next e = absurd (let z : _≡_ {A = ℕ} 0 1 = cc in omega arith)
-sent-count t true row m nothing bs n next e = cc
-sent-count t false row m nothing bs n next e = absurd (let z : _≡_ {A = ℕ} 0 1 = cc in omega arith)
-
-sent-stays : (t : Table) (substitute : Bool) (row m : ℕ) (w : Written) (bs : List ℕ) (n next : ℕ) → sentFor t substitute row m w ≡ give bs n next → row ≡ next
-sent-stays t substitute row m (code c) bs n next e = cc
-sent-stays t true row m subchar1 bs n next e = cc
-sent-stays t false row m subchar1 bs n next e = absurd (let z : _≡_ {A = ℕ} 0 1 = cc in omega arith)
-sent-stays t true row m nothing bs n next e = cc
-sent-stays t false row m nothing bs n next e = absurd (let z : _≡_ {A = ℕ} 0 1 = cc in omega arith)
+sent-gives : (t : Table) (substitute : Bool) (row m : ℕ) (w : Written) (bs : List ℕ) (n next : ℕ) → sentFor t substitute row m w ≡ give bs n next → (m ≡ n) × (row ≡ next)
+sent-gives t substitute row m (code c) bs n next e = (cc, cc)
+sent-gives t true row m subchar1 bs n next e = (cc, cc)
+sent-gives t false row m subchar1 bs n next e = absurd (let z : _≡_ {A = ℕ} 0 1 = cc in omega arith)
+sent-gives t true row m nothing bs n next e = (cc, cc)
+sent-gives t false row m nothing bs n next e = absurd (let z : _≡_ {A = ℕ} 0 1 = cc in omega arith)
 
 sent-legal : (t : Table) (substitute : Bool) (row m : ℕ) (w : Written) (n : ℕ) → sentFor t substitute row m w ≡ stop (stopped.Illegal n) → ⊥
 sent-legal t substitute row m (code c) n e = let z : _≡_ {A = ℕ} 0 1 = cc in omega arith
@@ -312,7 +305,7 @@ module _ (u : Side) (t : Table) (settings : Settings) (row : ℕ) where
   from-by : (s bs : List ℕ) (n next : ℕ) (x : Sequence) → u .decode s ≡ x → onSequence u t (settings .fallback) (settings .substitute) row x ≡ give bs n next
       → (c : ℕ) × (u .decode s ≡ sequence.Scalar c n)
   from-by s bs n next (sequence.Stopped w) q e = absurd (let z : _≡_ {A = ℕ} 0 1 = cc in omega arith)
-  from-by s bs n next (sequence.Scalar c m) q e = (c, q ∙ ap (sequence.Scalar c) (sent-count t (settings .substitute) row m (writes t (settings .fallback) c) bs n next e))
+  from-by s bs n next (sequence.Scalar c m) q e = (c, q ∙ ap (sequence.Scalar c) (sent-gives t (settings .substitute) row m (writes t (settings .fallback) c) bs n next e .0))
 
   -- what is written was read as a code point
   from-point : (s bs : List ℕ) (n next : ℕ) → fromPlain u t settings row s ≡ give bs n next → (c : ℕ) × (u .decode s ≡ sequence.Scalar c n)
@@ -326,7 +319,7 @@ module _ (u : Side) (t : Table) (settings : Settings) (row : ℕ) where
 
   stays-by : (bs : List ℕ) (n next : ℕ) (x : Sequence) → onSequence u t (settings .fallback) (settings .substitute) row x ≡ give bs n next → row ≡ next
   stays-by bs n next (sequence.Stopped w) e = absurd (let z : _≡_ {A = ℕ} 0 1 = cc in omega arith)
-  stays-by bs n next (sequence.Scalar c m) e = sent-stays t (settings .substitute) row m (writes t (settings .fallback) c) bs n next e
+  stays-by bs n next (sequence.Scalar c m) e = sent-gives t (settings .substitute) row m (writes t (settings .fallback) c) bs n next e .1
 
   from-stays : (s bs : List ℕ) (n next : ℕ) → fromPlain u t settings row s ≡ give bs n next → row ≡ next
   unfolding fromPlain

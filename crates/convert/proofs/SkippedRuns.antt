@@ -26,8 +26,7 @@ use Rattle.convert.specs.declared.RunEnd.the-variants.{Stopped}
 use Rattle.convert.specs.declared.Settings.{Settings}
 use Rattle.convert.specs.loops.Inner.{Sound, Settled, GivesAlone, Stays, LawfulSide}
 use Rattle.convert.specs.loops.Laws.{NotFull}
-use Rattle.convert.proofs.Runs.{every-run}
-use Rattle.convert.proofs.Whole.{stops-there}
+use Rattle.convert.proofs.Whole.{stops-there, state-stays}
 use Rattle.convert.proofs.PlainSteps.{to-plain-sound, to-plain-settled, to-plain-alone, to-plain-stays, to-illegal, from-plain-sound, from-plain-settled, from-plain-alone, from-plain-stays, from-illegal}
 use Rattle.convert.proofs.Skipping.{skipping-off, stopped-by, skipping-legal}
 use Rattle.convert.proofs.PartsOfFrames.{in-parts}
@@ -84,14 +83,9 @@ module _ (u : Side) (t : Table) (settings : Settings) where
       legal (u .encode 0xfffd) (toPlain u t settings) (toStep u t settings) (toStep u t (withSkip false settings))
       (to-plain-sound u t settings) (to-plain-settled u t settings) (to-plain-alone u t settings) (to-plain-stays u t settings) (to-set on) to-off
 
-  -- the state stays
-  to-state : (s : List ℕ) (row room : ℕ) → runOf (toStep u t settings) row 0 s room .state ≡ row
-  to-state =
-      every-run (toStep u t settings) (to-sound u t settings) (λ row s room r. r .state ≡ row)
-      (λ row room. refl)
-      (λ row s room h w e. refl)
-      (λ row s room h bs n next e l. refl)
-      (λ row s room h bs n next e l r ih. ih ∙ sym (toStep⇒Encoded t settings row u s bs n next e .stays))
+  to-state : (s : List ℕ) (room : ℕ) → toSide u t settings s room .state ≡ 0
+  to-state s room =
+      state-stays (toStep u t settings) (to-sound u t settings) (λ row x bs n next e. toStep⇒Encoded t settings row u x bs n next e .stays) s 0 room
 
   -- under the rules: what an illegal sequence takes in
   pub to-takes-in : (lim : Limits) → Keeps lim t → (s : List ℕ) → AllByte s → (n : ℕ) → toStep u t settings 0 s ≡ stop (stopped.Illegal n)
@@ -107,7 +101,7 @@ module _ (u : Side) (t : Table) (settings : Settings) where
   side-length lim keeps s bytes room n f =
       let r = toSide u t settings s room in
       to-takes-in lim keeps (drop (r .read) s) (bytes-behind (r .read) s bytes) n
-      (ap (λ (row : ℕ). toStep u t settings row (drop (r .read) s)) (sym (to-state s 0 room))
+      (ap (λ (row : ℕ). toStep u t settings row (drop (r .read) s)) (sym (to-state s room))
       ∙ stops-there (toStep u t settings) (to-sound u t settings) s 0 room (stopped.Illegal n) f)
 
 -- in a scheme

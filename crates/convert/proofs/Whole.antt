@@ -9,7 +9,7 @@ use lib.Seq.{drop-append-le, drop-append-seam, drop-drop, drop-length}
 use Rattle.unicode.specs.declared.utf8.Stop.{Stop}
 use Rattle.convert.specs.Run.{give, stop, SequenceStep, Run, runOf, after, endedWith}
 use Rattle.convert.specs.Claims.{allRead}
-use Rattle.convert.specs.loops.Inner.{Sound}
+use Rattle.convert.specs.loops.Inner.{Sound, Stays}
 use Rattle.convert.specs.loops.Laws.{NotFull, fed}
 use Rattle.convert.specs.declared.RunEnd.{RunEnd}
 use Rattle.convert.specs.declared.RunEnd.the-variants.{AllRead, OutputFull, Stopped}
@@ -74,6 +74,15 @@ module _ (step : SequenceStep) (so : Sound step) where
       (λ st s room h bs n next e l f. absurd (let z : _≡_ {A = ℕ} 0 1 = cc in omega arith))
       (λ st s room h bs n next e l r ih f. ap (step (r .state)) (sym (drop-drop (r .read) n s)) ∙ ih f)
       s st room
+
+  -- the state is the one it began in, where the step hands it on as it came
+  pub state-stays : Stays step → (s : List ℕ) (st room : ℕ) → runOf step st 0 s room .state ≡ st
+  state-stays stays =
+      every-run step so (λ st s room r. r .state ≡ st)
+      (λ st room. refl)
+      (λ st s room h w e. refl)
+      (λ st s room h bs n next e l. refl)
+      (λ st s room h bs n next e l r ih. ih ∙ sym (stays st s bs n next e))
 
   resumed-none : (h : RunEnd) (s t : List ℕ) (st room : ℕ) → runOf step st 0 (s ++ t) room ≡ resumed step s t room (endedWith h st)
   resumed-none h s t st room =

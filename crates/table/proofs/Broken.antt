@@ -36,6 +36,9 @@ taken-by Illegal k m e lt = refl
 taken-by (Ends y) k m e lt = absurd (omega arith)
 taken-by (Leads n) k m e lt = absurd (omega arith)
 
+taken-back : (x : Step) (k m : ℕ) → m ≡ brokenLength x (0 + k) → x ≡ Illegal → k < m
+taken-back x k m e q = let z : m ≡ 0 + k + 1 = e ∙ ap (λ (y : Step). brokenLength y (0 + k)) q in omega arith
+
 length-by : (broken k f m : ℕ) (s : List ℕ) (x : Step) (go : ℕ → Cut)
     → (k ≤ broken) × (broken ≤ k + 1)
     → ((n : ℕ) → go n ≡ Stopped (cutStop.Illegal m) → (k + 1 ≤ m) × (m ≤ k + 1 + length s) × (m ≤ k + 1 + f))
@@ -171,7 +174,7 @@ module _ (step : Rows) (row : ℕ) where
       lead-on = broken .lead;
       breaks = broken .breaks;
       ends = sized;
-      taken-in = taken;
+      taken-in = (taken, taken-back (step row (getD s (broken .before) 0)) (broken .before) m (broken .count));
       inner = inner-by;
       of-two = two-by;
     }

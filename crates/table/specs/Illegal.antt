@@ -4,7 +4,7 @@ use Prim.Native.Nat.{ℕ, _+_, _<_, _≤_}
 use mathlib.Core.Path.{_≡_}
 use mathlib.Core.List.{List, [], _∷_}
 use mathlib.Core.Bool.{Bool, true, false}
-use mathlib.Core.Logic.{_⊎_}
+use mathlib.Core.Logic.{_⊎_, _↔_}
 use lib.ListN.{getD, take}
 use Rattle.table.specs.States.{Rows}
 use Rattle.table.specs.declared.states.Step.the-variants.{Illegal, Ends, Leads}
@@ -35,9 +35,9 @@ pub record TakesIn (step : Rows) (row max : ℕ) (s : List ℕ) (n : ℕ) : Type
   pub before : ℕ
   pub lead-on : allLead step row (take before s) ≡ true
   pub breaks : step (reached step row (take before s)) (getD s before 0) ≡ Illegal
-  -- the sequence ends before that byte or behind it; it takes it in only where it is illegal as a first byte
+  -- the sequence ends before that byte or behind it; it takes it in exactly where it is illegal as a first byte
   pub ends : (before ≤ n) × (n ≤ before + 1)
-  pub taken-in : before < n → step row (getD s before 0) ≡ Illegal
+  pub taken-in : (before < n) ↔ (step row (getD s before 0) ≡ Illegal)
   -- so a byte of it, other than its own first, is illegal as a first byte, or led on
   pub inner : (j : ℕ) → 0 < j → j < n → (step row (getD s j 0) ≡ Illegal) ⊎ (j < before)
   -- where codes have at most two bytes no byte that could begin a code is taken in, but as its own first
