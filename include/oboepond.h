@@ -2,9 +2,11 @@
  * Oboepond: conversion between a code page and Unicode text in UTF-8 or UTF-32, by a conversion table
  * in lent memory.
  *
- * No function keeps anything between calls or takes memory but its stack: at most 2 KiB for load and
- * check, 36 KiB for each conversion, 3 KiB for the audit. Each is proved: for every content of the
- * slices it answers what is written here, ends, and touches no other memory.
+ * No function keeps anything between calls (what a text in pieces needs is kept by the caller, in
+ * `kept`) or takes memory but its stack: at most 2 KiB for load and check, 36 KiB for a conversion,
+ * whole or a piece of it, but 68 KiB for a piece from Unicode, 3 KiB for a close and for the audit.
+ * Each is proved: for every content of the slices it answers what is written here, ends, and touches
+ * no other memory.
  * The caller sees to it that each pointer is not null, is aligned for its type and has the stated
  * number of elements behind it (a pointer of length 0 too is not null), and that no slice that is
  * written overlaps another.
@@ -17,10 +19,10 @@
  * A code's bits hold its bytes with the first one on top: 81 7C is 0x817C0000, of length 2.
  * Numbers past the needed ones are never touched.
  *
- * Every function answers OBOEPOND_SHORT (70) where `record` or `result` has fewer numbers than it
- * says, and a function that takes a scheme OBOEPOND_NO_SCHEME (71) where the number is none: then
- * nothing is written anywhere, `result` included. 70 goes before 71, and both before all others. A
- * `result` longer than said keeps the rest of its values.
+ * Every function answers OBOEPOND_SHORT (70) where `record`, `kept` or `result` has fewer numbers than
+ * it says, and a function that takes a scheme OBOEPOND_NO_SCHEME (71) where the number is none: then
+ * nothing is written anywhere, `kept` and `result` included. 70 goes before 71, and both before all
+ * others. A `kept` or `result` longer than said keeps the rest of its values.
  */
 #ifndef OBOEPOND_H
 #define OBOEPOND_H
@@ -36,6 +38,7 @@ extern "C" {
 #define OBOEPOND_STATES 4096
 #define OBOEPOND_MAPPINGS 2048
 #define OBOEPOND_RECORD 7
+#define OBOEPOND_KEPT 5
 
 /* Schemes: how Unicode text stands in bytes. UTF-8 is that of RFC 3629. UTF-32 has four bytes for each
  * character: a surrogate, or a number over 10FFFF, is illegal (52); a rest of fewer than four bytes is
@@ -78,6 +81,10 @@ extern "C" {
 /* An audit call is refused. */
 #define OBOEPOND_BAD_POSITION 40 /* the position is neither the beginning nor a complete code */
 
+/* A call in pieces is refused. */
+#define OBOEPOND_BAD_KEPT 42 /* `kept` is what no call hands back under this table, scheme and settings: start
+                                afresh, with zeros */
+
 /* A conversion ends before all is read, at the first sequence for which one holds; of several at one
  * place the order is 51, 52, 53, 50. Only the mark that OBOEPOND_UTF32 writes goes before the first
  * sequence: 50 where it does not fit, whatever the input.
@@ -102,7 +109,7 @@ extern "C" {
 #define OBOEPOND_BAD_TABLE 60
 
 /* This interface's own numbers. */
-#define OBOEPOND_SHORT 70     /* `record` or `result` is too short */
+#define OBOEPOND_SHORT 70     /* `record`, `kept` or `result` is too short */
 #define OBOEPOND_NO_SCHEME 71 /* the number given for the scheme is none of those above */
 
 /*
@@ -207,6 +214,100 @@ uint32_t oboepond_from_unicode(const uint32_t *record, size_t record_len,
                                uint8_t *output, size_t output_len,
                                uint32_t scheme, uint32_t fallback, uint32_t substitute, uint32_t skip,
                                uint64_t *result, size_t result_len);
+
+/*
+ * A text in pieces, as a cable delivers it: one call for each piece, in order, and a closing call behind
+ * the last. What is between two pieces stands in `kept`, five numbers, all zeros for a fresh start:
+ *   [0]  the kept bytes, those of a sequence that is not yet whole, as a code's bits
+ *   [1]  how many they are, 0 to 3
+ *   [2]  the mark of OBOEPOND_UTF32: 0 it is ahead, 1 it is behind and the text is big-endian, 2 it is
+ *        behind and the text is little-endian. 0 in all other schemes
+ *   [3]  the standing answer: 0, 51, 52 or 53
+ *   [4]  the length of the illegal sequence where 52 stands, else 0
+ * Table, scheme and settings stay the same from the fresh start to the end of the text. However it is
+ * cut, empty pieces included, the outputs joined, the last answer with its length, and its place (the
+ * sum of all bytes read, less the bytes kept) are those of the whole conversion with space enough.
+ *
+ * In order, a call answers 70 or 71; 60; 42; the standing answer; then, where the mark that OBOEPOND_UTF32
+ * writes is ahead, it writes the mark, or answers 50; then it goes on with kept bytes and piece as one
+ * text. With 60 and 42 result is 0, 0, 0, and neither output nor `kept` changes. Afterwards:
+ *    0       all of the piece is read. If it ends inside a sequence, the bytes of that sequence, at most
+ *            three, are kept, and count as read.
+ *   50       what was written stands. Go on with fresh space and the rest of the piece, which begins
+ *            behind the bytes read; an empty rest too. An output of four bytes always suffices to go on.
+ *   52, 53   this is the text's end: the answer stands, and every further call gives it again, with the
+ *            same length, nothing read, written or changed, until a fresh start.
+ * With 50, 52 and 53 reading stops before the sequence; where that began in an earlier piece, the bytes
+ * read are 0, and its bytes stay kept. So a 50 while skipping in UTF-8 can leave one or two bytes 80 to BF
+ * kept: the next call, with an empty piece too, skips them first.
+ * result: bytes read of this piece, bytes written, and with 52 the length of the illegal sequence, else 0.
+ *
+ * 42 is given for: more than three bytes kept, or bits behind them that are not 0; kept bytes that do not
+ * all lead on by the table's states, or in UTF-8 do not begin a well-formed sequence (with skip one or two
+ * bytes 80 to BF may stand there too); a mark over 2, or not 0 where the scheme has none, or 2 where it is
+ * written, or still to be written while bytes are kept or an answer stands; a standing answer that is none
+ * of the four; 51 with no bytes kept; 52 with a length that no illegal sequence has, or of the table's
+ * bytes with more kept than that; a length without 52.
+ *
+ * oboepond_to_unicode_piece: from the table's bytes to Unicode text. scheme, substitute, skip and output as
+ * for oboepond_to_unicode. The first call writes the mark of OBOEPOND_UTF32, for an empty piece too.
+ * Answers 0, 42, 50 to 53 or 60, 70, 71; 51 only where it stands.
+ */
+uint32_t oboepond_to_unicode_piece(const uint32_t *record, size_t record_len,
+                                   const uint16_t *states, size_t states_len,
+                                   const uint32_t *codes, size_t codes_len,
+                                   const uint32_t *infos, size_t infos_len,
+                                   const uint32_t *order, size_t order_len,
+                                   uint32_t *kept, size_t kept_len,
+                                   const uint8_t *input, size_t input_len,
+                                   uint8_t *output, size_t output_len,
+                                   uint32_t scheme, uint32_t substitute, uint32_t skip,
+                                   uint64_t *result, size_t result_len);
+
+/*
+ * From Unicode text in pieces to the table's bytes. scheme, fallback, substitute, skip and output as for
+ * oboepond_from_unicode, the rest as for oboepond_to_unicode_piece. With OBOEPOND_UTF32 the order is chosen
+ * when the text's first four bytes are there; up to three are kept before that. `kept` says 1 or 2 once
+ * those four are read: the mark, or without one the first character; where that stops the call it still
+ * says 0.
+ */
+uint32_t oboepond_from_unicode_piece(const uint32_t *record, size_t record_len,
+                                     const uint16_t *states, size_t states_len,
+                                     const uint32_t *codes, size_t codes_len,
+                                     const uint32_t *infos, size_t infos_len,
+                                     const uint32_t *order, size_t order_len,
+                                     uint32_t *kept, size_t kept_len,
+                                     const uint8_t *input, size_t input_len,
+                                     uint8_t *output, size_t output_len,
+                                     uint32_t scheme, uint32_t fallback, uint32_t substitute, uint32_t skip,
+                                     uint64_t *result, size_t result_len);
+
+/*
+ * The closing calls, behind the last piece of a text. 70, 71, 60, 42 and a standing answer as for a piece.
+ * Then: 51 where bytes are kept; they stay kept, and 51 stands from now on. Else the mark of OBOEPOND_UTF32
+ * is written if no call did so, or the answer is 50 with nothing changed. Else 0: `kept` is zeros, and the
+ * next text can begin.
+ * result: 0, bytes written (4 where the mark is written, else 0), and the length with a standing 52, else 0.
+ */
+uint32_t oboepond_to_unicode_close(const uint32_t *record, size_t record_len,
+                                   const uint16_t *states, size_t states_len,
+                                   const uint32_t *codes, size_t codes_len,
+                                   const uint32_t *infos, size_t infos_len,
+                                   const uint32_t *order, size_t order_len,
+                                   uint32_t *kept, size_t kept_len,
+                                   uint8_t *output, size_t output_len,
+                                   uint32_t scheme, uint32_t substitute, uint32_t skip,
+                                   uint64_t *result, size_t result_len);
+
+uint32_t oboepond_from_unicode_close(const uint32_t *record, size_t record_len,
+                                     const uint16_t *states, size_t states_len,
+                                     const uint32_t *codes, size_t codes_len,
+                                     const uint32_t *infos, size_t infos_len,
+                                     const uint32_t *order, size_t order_len,
+                                     uint32_t *kept, size_t kept_len,
+                                     uint8_t *output, size_t output_len,
+                                     uint32_t scheme, uint32_t fallback, uint32_t substitute, uint32_t skip,
+                                     uint64_t *result, size_t result_len);
 
 /*
  * One call of the audit: looks at the complete codes after a position, in byte order, and writes an

@@ -48,8 +48,9 @@ pub fn run(folder: &Path) {
     }
 }
 
-/// The calls of the archive; one from before UTF-32 lacks two, and one from
-/// before skipping has conversions without that setting.
+/// The calls of the archive; one from before UTF-32 lacks two, one from before
+/// pieces four more, and one from before skipping has conversions without that
+/// setting.
 fn opened(archive: &Path) -> Result<Calls, String> {
     let folder = Folder::make()?;
     let shared = folder.0.join("libbefore.so");
@@ -64,6 +65,10 @@ fn opened(archive: &Path) -> Result<Calls, String> {
             from_utf8: Some(library.call("oboepond_from_utf8")?),
             to_unicode: library.call("oboepond_to_unicode").ok(),
             from_unicode: library.call("oboepond_from_unicode").ok(),
+            to_unicode_piece: library.call("oboepond_to_unicode_piece").ok(),
+            from_unicode_piece: library.call("oboepond_from_unicode_piece").ok(),
+            to_unicode_close: library.call("oboepond_to_unicode_close").ok(),
+            from_unicode_close: library.call("oboepond_from_unicode_close").ok(),
             audit: Some(library.call("oboepond_audit")?),
         }
     };

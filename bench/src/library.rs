@@ -17,7 +17,8 @@ pub struct Build {
 /// The static library that is linked.
 pub const LINKED: Build = Build { name: "library", calls: raw::LINKED };
 
-/// UTF-32BE in the C header.
+/// Schemes in the C header.
+const UTF8: u32 = 0;
 const UTF32BE: u32 = 1;
 
 /// The lent memory and the record.
@@ -81,6 +82,36 @@ impl Lent {
             Scheme::Utf32Be => calls.from_unicode(record, memory, input, output, UTF32BE, 0, 1, skip, &mut result),
         };
         (number, result[0] as usize, result[1] as usize)
+    }
+
+    /// One piece of UTF-8, settings as above; all of it must be read. Bytes written.
+    pub fn to_utf8_piece(&self, kept: &mut [u32; 5], piece: &[u8], output: &mut [u8]) -> usize {
+        let (calls, record, memory) = (&self.build.calls, &self.record, &self.memory);
+        let mut result = [0; 3];
+        let number = calls.to_unicode_piece(record, memory, kept, piece, output, UTF8, 1, 0, &mut result);
+        assert_eq!((number, result[0] as usize), (0, piece.len()), "the piece is converted");
+        result[1] as usize
+    }
+
+    pub fn from_utf8_piece(&self, kept: &mut [u32; 5], piece: &[u8], output: &mut [u8]) -> usize {
+        let (calls, record, memory) = (&self.build.calls, &self.record, &self.memory);
+        let mut result = [0; 3];
+        let number = calls.from_unicode_piece(record, memory, kept, piece, output, UTF8, 0, 1, 0, &mut result);
+        assert_eq!((number, result[0] as usize), (0, piece.len()), "the piece is converted");
+        result[1] as usize
+    }
+
+    /// The closing calls; nothing may be kept.
+    pub fn to_utf8_close(&self, kept: &mut [u32; 5]) {
+        let number =
+            self.build.calls.to_unicode_close(&self.record, &self.memory, kept, &mut [], UTF8, 1, 0, &mut [0; 3]);
+        assert_eq!(number, 0, "the text is whole");
+    }
+
+    pub fn from_utf8_close(&self, kept: &mut [u32; 5]) {
+        let number =
+            self.build.calls.from_unicode_close(&self.record, &self.memory, kept, &mut [], UTF8, 0, 1, 0, &mut [0; 3]);
+        assert_eq!(number, 0, "the text is whole");
     }
 
     /// Entries written and count of one piece from a position, which moves

@@ -2,8 +2,9 @@
 //! table in the same run, and beside ICU and iconv. Figures are ratios: time of
 //! the library divided by time of the other. The argument `look-ups` asks for the
 //! look-ups alone, `searches` for look-ups without any conversion, `skipping` for
-//! damaged text alone, `schemes` for UTF-32BE beside UTF-8 alone, `peers` for ICU and
-//! iconv alone, and `before FOLDER` for another build of the library.
+//! damaged text alone, `schemes` for UTF-32BE beside UTF-8 alone, `pieces` for text in
+//! pieces alone, `peers` for ICU and iconv alone, and `before FOLDER` for another build
+//! of the library.
 //!
 //! Each figure but those of `searches` is the median of several rounds; a second
 //! ratio is that of the least times, for a busy machine. The state of the buffers is printed with
@@ -21,6 +22,7 @@ mod lookups;
 mod memory;
 mod older;
 mod peers;
+mod pieces;
 mod pipes;
 mod plain;
 #[path = "../../tests/src/raw.rs"]
@@ -50,6 +52,7 @@ fn main() {
             skipping();
             look_ups();
             searches::run();
+            pieces::run();
             peers::schemes();
             peers::run();
         }
@@ -57,10 +60,13 @@ fn main() {
         ["searches"] => searches::run(),
         ["skipping"] => skipping(),
         ["schemes"] => peers::schemes(),
+        ["pieces"] => pieces::run(),
         ["peers"] => peers::run(),
         ["before", folder] => before::run(folder.as_ref()),
         _ => {
-            println!("arguments: none, `look-ups`, `searches`, `skipping`, `schemes`, `peers` or `before FOLDER`");
+            println!(
+                "arguments: none, `look-ups`, `searches`, `skipping`, `schemes`, `pieces`, `peers` or `before FOLDER`"
+            );
             std::process::exit(2);
         }
     }

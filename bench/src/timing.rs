@@ -124,6 +124,12 @@ fn measured(before: &mut dyn FnMut(), ways: &mut [Way]) -> Vec<Vec<f64>> {
     times
 }
 
+/// The median time of each way, and the least.
+pub fn medians_and_leasts(mut ways: Vec<Way>) -> (Vec<f64>, Vec<f64>) {
+    let times = measured(&mut nothing, &mut ways);
+    times.iter().map(|t| (t[ROUNDS / 2], t[0])).unzip()
+}
+
 /// Prints a group of lines: the library, which comes first, and each other way
 /// with its ratios.
 pub fn figure(name: &str, buffers: &str, amount: Option<Amount>, before: &mut dyn FnMut(), mut ways: Vec<Way>) {

@@ -1,4 +1,4 @@
-//! Cases of the C calls alone: slices for record and result that are too short
+//! Cases of the C calls alone: slices for record, kept and result that are too short
 //! (70, nothing else happens) or longer than needed, numbers that are no scheme
 //! (71, nothing else happens), settings other than 1.
 
@@ -34,6 +34,12 @@ pub const CASES: &[AbiCase] = &[
     ("from Unicode, skipping: any setting but 0, a long result", from_skipping),
     ("the length stands with 52 alone, over an old value", lengths),
     ("skip is a setting of its own, behind the others", order_of_settings),
+    ("in pieces with a short record, kept or result: 70", pieces_short),
+    ("in pieces with long record, kept and result, any setting but 0", pieces_long),
+    ("in pieces with a number that is no scheme: 71", pieces_no_scheme),
+    ("in pieces 70 goes before 71, 71 before 60, 60 before 42", pieces_order),
+    ("in pieces each setting has its place", pieces_settings),
+    ("in pieces the length stands with 52 alone, over an old value", pieces_lengths),
     ("audit with a short record or result: 70", audit_short),
     ("audit with long record and result, any setting but 0", audit_long),
     ("70 goes before 60", short_before_60),
@@ -523,6 +529,208 @@ fn order_of_settings() -> Result<(), String> {
                 equal(&what, result[1], out.len() as u64)?;
             }
         }
+    }
+    Ok(())
+}
+
+/// The four calls in pieces behind one form. The closing ones have no input, and
+/// towards Unicode there is no fallback.
+type InPieces = fn(&[u32], &Memory, &mut [u32], &[u8], &mut [u8], [u32; 4], &mut [u64]) -> u32;
+
+const IN_PIECES: [(&str, InPieces); 4] = [
+    ("to Unicode, a piece", |r, m, k, i, o, [scheme, _, s, skip], result| {
+        LINKED.to_unicode_piece(r, m, k, i, o, scheme, s, skip, result)
+    }),
+    ("from Unicode, a piece", |r, m, k, i, o, [scheme, f, s, skip], result| {
+        LINKED.from_unicode_piece(r, m, k, i, o, scheme, f, s, skip, result)
+    }),
+    ("to Unicode, close", |r, m, k, _, o, [scheme, _, s, skip], result| {
+        LINKED.to_unicode_close(r, m, k, o, scheme, s, skip, result)
+    }),
+    ("from Unicode, close", |r, m, k, _, o, [scheme, f, s, skip], result| {
+        LINKED.from_unicode_close(r, m, k, o, scheme, f, s, skip, result)
+    }),
+];
+
+const OLD_KEPT: u32 = 0x1122_3344;
+
+/// Nothing happens where one of the three is too short, whatever the values.
+fn pieces_short() -> Result<(), String> {
+    let (record, memory) = k();
+    let lengths = (0..=7).flat_map(|n| (0..=5).flat_map(move |k| (0..=3).map(move |m| (n, k, m))));
+    for ((n, k, m), (name, call)) in lengths.flat_map(|lengths| IN_PIECES.map(|call| (lengths, call))) {
+        for (scheme, old) in [(0, 0), (0, OLD_KEPT), (1, 0), (3, 0), (4, 0)] {
+            let (mut kept, mut output, mut result) = (vec![old; k], old_bytes(9), vec![OLD; m]);
+            let got = call(&record[..n], &memory, &mut kept, b"", &mut output, [scheme, 0, 0, 0], &mut result);
+            let what = format!("{name}, lengths {n} {k} {m}");
+            if n < 7 || k < 5 || m < 3 {
+                equal(&what, got, 70)?;
+                equal_slices(&what, &kept, &vec![old; k])?;
+                equal_slices(&what, &result, &vec![OLD; m])?;
+                equal_slices(&what, &output, &old_bytes(9))?;
+            } else {
+                equal(&what, got, if scheme == 4 { 71 } else { 42 * (old != 0) as u32 })?;
+            }
+        }
+    }
+    Ok(())
+}
+
+/// A frame in two pieces and a close, with slices longer than needed.
+fn pieces_long() -> Result<(), String> {
+    let (record, memory) = k();
+    let long = [&record[..], &[9; 5]].concat();
+    let [(_, to), (_, from), (_, to_close), (_, from_close)] = IN_PIECES;
+    for (substitute, skip) in OFF_AND_ON.into_iter().flat_map(|substitute| OFF_AND_ON.map(|skip| (substitute, skip))) {
+        // 3F is unassigned, 81 FF is illegal.
+        let sub = if substitute == 0 { (53, [0, 0, 0]) } else { (0, [1, 3, 0]) };
+        let bad = if skip == 0 { (52, [0, 0, 2]) } else { (0, [1, 3, 0]) };
+        for (first, second, want) in [(&b""[..], b"\x3f", sub), (b"\x81", b"\xff", bad)] {
+            let set = [0, 0, substitute, skip];
+            let mut kept = [[0; 5].as_slice(), &[OLD_KEPT; 3]].concat();
+            let (mut output, mut result) = (old_bytes(9), vec![OLD; 7]);
+            to(&long, &memory, &mut kept, first, &mut output, set, &mut result);
+            let got = to(&long, &memory, &mut kept, second, &mut output, set, &mut result);
+            equal(&format!("{second:02x?}, {set:?}"), (got, &result[..3]), (want.0, &want.1[..]))?;
+            let got = to_close(&long, &memory, &mut kept, b"", &mut output, set, &mut result);
+            equal("close", (got, result[2]), (want.0, want.1[2]))?;
+            equal_slices("result behind", &result[3..], &[OLD; 4])?;
+            equal_slices("kept behind", &kept[5..], &[OLD_KEPT; 3])?;
+        }
+    }
+    let settings = (0..125).map(|i| [OFF_AND_ON[i / 25], OFF_AND_ON[i / 5 % 5], OFF_AND_ON[i % 5]]);
+    for [fallback, substitute, skip] in settings {
+        // U+FF0D has a fallback, U+00E9 has no line, E2 88 FF has three illegal bytes.
+        let wide = match (fallback, substitute) {
+            (0, 0) => (53, [0, 0, 0]),
+            (0, _) => (0, [1, 1, 0]),
+            _ => (0, [1, 2, 0]),
+        };
+        let none = if substitute == 0 { (53, [0, 0, 0]) } else { (0, [1, 1, 0]) };
+        let bad = if skip == 0 { (52, [0, 0, 1]) } else { (0, [1, 3, 0]) };
+        for (first, second, want) in
+            [(&b"\xef\xbc"[..], b"\x8d", wide), (b"\xc3", b"\xa9", none), (b"\xe2\x88", b"\xff", bad)]
+        {
+            let set = [0, fallback, substitute, skip];
+            let mut kept = [[0; 5].as_slice(), &[OLD_KEPT; 3]].concat();
+            let (mut output, mut result) = (old_bytes(9), vec![OLD; 7]);
+            from(&long, &memory, &mut kept, first, &mut output, set, &mut result);
+            let got = from(&long, &memory, &mut kept, second, &mut output, set, &mut result);
+            equal(&format!("{second:02x?}, {set:?}"), (got, &result[..3]), (want.0, &want.1[..]))?;
+            let got = from_close(&long, &memory, &mut kept, b"", &mut output, set, &mut result);
+            equal("close", (got, result[2]), (want.0, want.1[2]))?;
+            equal_slices("result behind", &result[3..], &[OLD; 4])?;
+            equal_slices("kept behind", &kept[5..], &[OLD_KEPT; 3])?;
+        }
+    }
+    Ok(())
+}
+
+/// Nothing happens, whatever table, state, piece and space.
+fn pieces_no_scheme() -> Result<(), String> {
+    let (record, memory) = k();
+    for (scheme, (name, call)) in NO_SCHEMES.into_iter().flat_map(|scheme| IN_PIECES.map(|call| (scheme, call))) {
+        for (record, memory) in [(record, &memory), ([0; 7], &memory), (record, &Memory::default())] {
+            for (old, input, space) in [(0, &b"33"[..], 9), (OLD_KEPT, b"33", 9), (0, b"", 0), (OLD_KEPT, b"\xff", 0)] {
+                let (mut kept, mut output, mut result) = ([old; 6], old_bytes(space), [OLD; 4]);
+                let got = call(&record, memory, &mut kept, input, &mut output, [scheme, 1, 1, 1], &mut result);
+                equal(&format!("{name}, number for {scheme}"), got, 71)?;
+                equal_slices("result", &result, &[OLD; 4])?;
+                equal_slices("kept", &kept, &[old; 6])?;
+                equal_slices("output", &output, &old_bytes(space))?;
+            }
+        }
+    }
+    Ok(())
+}
+
+fn pieces_order() -> Result<(), String> {
+    let ((record, memory), none) = (k(), Memory::default());
+    for (name, call) in IN_PIECES {
+        // Each has what the next would be refused for.
+        let refused: [(&[u32], &Memory, usize, u32, usize, u32); 7] = [
+            (&[0; 6], &none, 5, 4, 3, 70),
+            (&[0; 7], &none, 4, 4, 3, 70),
+            (&[0; 7], &none, 5, 4, 2, 70),
+            (&record, &memory, 4, 0, 3, 70),
+            (&[0; 7], &none, 5, 4, 3, 71),
+            (&[0; 7], &none, 5, 3, 3, 60),
+            (&record, &memory, 5, 3, 3, 42),
+        ];
+        for (record, memory, k, scheme, m, number) in refused {
+            let (mut kept, mut output, mut result) = (vec![OLD_KEPT; k], old_bytes(9), vec![OLD; m]);
+            let got = call(record, memory, &mut kept, b"3", &mut output, [scheme, 0, 0, 0], &mut result);
+            equal(name, got, number)?;
+            let result_of = if number < 70 { 0 } else { OLD };
+            equal_slices(&format!("{name}, {number}, result"), &result, &vec![result_of; m])?;
+            equal_slices(&format!("{name}, {number}, kept"), &kept, &vec![OLD_KEPT; k])?;
+            equal_slices(&format!("{name}, {number}, output"), &output, &old_bytes(9))?;
+        }
+    }
+    Ok(())
+}
+
+/// Of several settings just one on: what it does shows which one it is. At a
+/// close only skip is asked: trail bytes may be kept.
+fn pieces_settings() -> Result<(), String> {
+    let (record, memory) = k();
+    let [(_, to), (_, from), (_, to_close), (_, from_close)] = IN_PIECES;
+    for bits in 0..8u32 {
+        let [fallback, substitute, skip] = [bits & 1, bits >> 1 & 1, bits >> 2 & 1];
+        let set = [0, fallback, substitute, skip];
+        let number = |on: u32, off: u32| if on == 1 { 0 } else { off };
+        for (call, input, want) in [
+            (to, &b"\x3f"[..], number(substitute, 53)),
+            (to, b"\xff", number(skip, 52)),
+            (from, b"\xef\xbc\x8d", number(fallback | substitute, 53)),
+            (from, b"A", number(substitute, 53)),
+            (from, b"\xff", number(skip, 52)),
+        ] {
+            let got = call(&record, &memory, &mut [0; 5], input, &mut old_bytes(9), set, &mut [OLD; 3]);
+            equal(&format!("{input:02x?}, {set:?}"), got, want)?;
+        }
+        let trail = [0x8800_0000, 1, 0, 0, 0];
+        for (name, call, want) in [
+            ("to Unicode", to, 42),
+            ("from Unicode", from, number(skip, 42)),
+            ("to Unicode, close", to_close, 42),
+            ("from Unicode, close", from_close, if skip == 1 { 51 } else { 42 }),
+        ] {
+            let got = call(&record, &memory, &mut trail.clone(), b"", &mut old_bytes(9), set, &mut [OLD; 3]);
+            equal(&format!("88 kept, {name}, {set:?}"), got, want)?;
+        }
+    }
+    Ok(())
+}
+
+/// Input, space, what was kept; then number, the whole result and what is kept.
+type ToldPiece = (&'static [u8], usize, [u32; 5], u32, [u64; 3], [u32; 5]);
+
+/// Each number over old values in the result: all three are always written.
+fn pieces_lengths() -> Result<(), String> {
+    let (record, memory) = k();
+    let [(_, to), (_, from), (_, to_close), (_, from_close)] = IN_PIECES;
+    let (fresh, lead, byte) = ([0; 5], [0x8100_0000, 1, 0, 0, 0], [0xe200_0000, 1, 0, 0, 0]);
+    let told: [(InPieces, ToldPiece); 14] = [
+        (to, (b"3", 9, fresh, 0, [1, 1, 0], fresh)),
+        (to, (b"3", 0, fresh, 50, [0, 0, 0], fresh)),
+        (to, (b"3\x81", 9, fresh, 0, [2, 1, 0], lead)),
+        (to, (b"-", 9, lead, 52, [0, 0, 1], [0x8100_0000, 1, 0, 52, 1])),
+        (to, (b"\x80", 9, lead, 53, [0, 0, 0], [0x8100_0000, 1, 0, 53, 0])),
+        (to, (b"3", 9, [0, 0, 0, 52, 4], 52, [0, 0, 4], [0, 0, 0, 52, 4])),
+        (to_close, (b"", 9, lead, 51, [0, 0, 0], [0x8100_0000, 1, 0, 51, 0])),
+        (to_close, (b"", 9, [0, 0, 0, 52, 3], 52, [0, 0, 3], [0, 0, 0, 52, 3])),
+        (to_close, (b"", 9, fresh, 0, [0, 0, 0], fresh)),
+        (from, (b"3\xe2", 9, fresh, 0, [2, 1, 0], byte)),
+        (from, (b"3", 9, byte, 52, [0, 0, 1], [0xe200_0000, 1, 0, 52, 1])),
+        (from_close, (b"", 9, byte, 51, [0, 0, 0], [0xe200_0000, 1, 0, 51, 0])),
+        (from_close, (b"", 9, [0, 0, 0, 52, 1], 52, [0, 0, 1], [0, 0, 0, 52, 1])),
+        (from_close, (b"", 0, fresh, 0, [0, 0, 0], fresh)),
+    ];
+    for (call, (input, space, mut kept, number, want, left)) in told {
+        let (mut output, mut result) = (old_bytes(space), [OLD; 3]);
+        let got = call(&record, &memory, &mut kept, input, &mut output, [0; 4], &mut result);
+        equal(&format!("{input:02x?}"), (got, result, kept), (number, want, left))?;
     }
     Ok(())
 }

@@ -280,7 +280,7 @@ fn has_form(
     equal("the test behind 60", s.check(&got_record, &got), 0)
 }
 
-fn hex(text: &str) -> Vec<u8> {
+pub fn hex(text: &str) -> Vec<u8> {
     let digits: Vec<u8> = text.bytes().filter(|b| *b != b' ').collect();
     digits
         .chunks(2)
@@ -304,7 +304,7 @@ pub struct List {
 
 pub const STRICT: Settings = Settings { fallback: false, substitute: false, skip: false };
 pub const SUBST: Settings = Settings { fallback: false, substitute: true, skip: false };
-const FALL: Settings = Settings { fallback: true, substitute: false, skip: false };
+pub const FALL: Settings = Settings { fallback: true, substitute: false, skip: false };
 const FALL_SUBST: Settings = Settings { fallback: true, substitute: true, skip: false };
 // The same with illegal sequences passed over.
 const SKIP: Settings = skipping(STRICT);
@@ -318,13 +318,13 @@ pub const fn skipping(set: Settings) -> Settings {
 
 /// The number at a conversion's end, and the length of the sequence for 52.
 #[derive(Clone, Copy)]
-struct End {
-    number: u32,
-    length: u64,
+pub struct End {
+    pub number: u32,
+    pub length: u64,
 }
 
 /// 52 for a sequence of this length.
-const fn illegal(length: u64) -> End {
+pub const fn illegal(length: u64) -> End {
     End { number: 52, length }
 }
 
@@ -1904,10 +1904,10 @@ fn conversions(l: &mut List) {
     });
 }
 
-const BE: Scheme = Scheme::Utf32Be;
-const LE: Scheme = Scheme::Utf32Le;
+pub const BE: Scheme = Scheme::Utf32Be;
+pub const LE: Scheme = Scheme::Utf32Le;
 /// Plain UTF-32, with a byte order mark.
-const PLAIN: Scheme = Scheme::Utf32;
+pub const PLAIN: Scheme = Scheme::Utf32;
 
 /// Codes for the bounds of the scalar values, and for what looks like a mark.
 fn bounds() -> Bytes {

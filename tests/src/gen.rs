@@ -1,7 +1,7 @@
 //! Seeded generators: tables, their texts in many dresses, damaged and hostile
 //! texts, memories, frames, UTF-8 and UTF-32.
 
-use crate::oracle::{self, complete, form, Cell, Kind, Line, Memory, Record, Row, Scheme, Table};
+use crate::oracle::{self, complete, form, Cell, Kept, Kind, Line, Memory, Pipe, Record, Row, Scheme, Table, Way};
 use std::collections::HashSet;
 
 // ---------------------------------------------------------------------------
@@ -2179,4 +2179,40 @@ pub fn random_position(rng: &mut Rng, t: &Table) -> (u32, u32) {
         10 => (rng.next() as u32, rng.below(6) as u32),
         _ => (bits, len.wrapping_add(*rng.pick(&[256, u32::MAX, 4, 0]))),
     }
+}
+
+/// Bytes such as a call keeps, and others.
+fn bytes_to_keep(rng: &mut Rng, t: &Table, pipe: Pipe) -> Vec<u8> {
+    let mut bytes = match (pipe.way, rng.below(5)) {
+        (_, 0) => Vec::new(),
+        (_, 1) => (0..rng.range(1, 4)).map(|_| rng.byte()).collect(),
+        (Way::From, 2) => (0..rng.range(1, 3)).map(|_| rng.range(0x80, 0xbf) as u8).collect(),
+        (Way::From, _) => character(pipe.scheme, random_cp(rng, true)),
+        (Way::To, _) => leads(rng, &t.rows).map_or(Vec::new(), |(way, _)| way),
+    };
+    let most = if pipe.way == Way::To { 3 } else { bytes.len().saturating_sub(1).min(3) };
+    bytes.truncate(if rng.one_in(8) { 4 } else { rng.range(most.min(1), most) });
+    bytes
+}
+
+/// What is kept: as a call leaves it, or nearly so.
+pub fn random_kept(rng: &mut Rng, t: &Table, pipe: Pipe) -> Kept {
+    let bytes = bytes_to_keep(rng, t, pipe);
+    let mark = if pipe.scheme == Scheme::Utf32 { rng.below(3) as u32 } else { 0 };
+    let unit = if pipe.scheme == Scheme::Utf8 { 1 } else { 4 };
+    let (standing, length) = match rng.below(8) {
+        0 => (51, 0),
+        1 if pipe.way == Way::To => (52, rng.range(1, 4) as u32),
+        1 => (52, unit),
+        2 => (53, 0),
+        _ => (0, 0),
+    };
+    let mut kept = [oracle::bits_of(&bytes), bytes.len() as u32, mark, standing, length];
+    match rng.below(12) {
+        0 => kept[0] ^= 1 << rng.below(32),
+        1 => kept[rng.range(1, 4)] = *rng.pick(&[0, 1, 2, 3, 4, 5, 50, 51, 52, 53, 54, 255, 256, 1 << 16, u32::MAX]),
+        2 => kept.fill_with(|| rng.next() as u32),
+        _ => {}
+    }
+    kept
 }

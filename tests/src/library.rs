@@ -1,15 +1,16 @@
 //! The library as a test subject.
 
 use crate::cases::{equal, equal_slices};
-use crate::oracle::{Audited, Loaded, Memory, Piped, Record, Scheme, Settings};
+use crate::oracle::{Audited, Kept, Loaded, Memory, Pipe, Piped, Record, Scheme, Settings, Way};
 use crate::raw::LINKED;
 use crate::subject::Subject;
 
-/// Each result slice is three places longer than needed; a change behind the
-/// needed places is a failure at once.
+/// Each slice for a result, or for what is kept, is three places longer than
+/// needed; a change behind the needed places is a failure at once.
 pub struct Library;
 
 const CANARY: u64 = 0xdead_beef_5a5a_a5a5;
+const SMALL_CANARY: u32 = 0xa55a_5aa5;
 
 fn checked<const N: usize>(result: &[u64]) -> [u64; N] {
     assert!(result[N..].iter().all(|&v| v == CANARY), "result slice: places behind were changed");
@@ -107,6 +108,31 @@ impl Subject for Library {
                 piped(|result| LINKED.from_utf8(record, memory, input, &mut other, fallback, substitute, skip, result));
             same_for_utf8((got, output), (alone, &other));
         }
+        got
+    }
+
+    fn piece(
+        &self,
+        record: &Record,
+        memory: &Memory,
+        pipe: Pipe,
+        kept: &mut Kept,
+        piece: Option<&[u8]>,
+        output: &mut [u8],
+    ) -> Piped {
+        let (c, r, m, scheme) = (LINKED, record, memory, number_of(pipe.scheme));
+        let (f, s) = (pipe.settings.fallback as u32, pipe.settings.substitute as u32);
+        let skip = pipe.settings.skip as u32;
+        let mut k = [SMALL_CANARY; 8];
+        k[..5].copy_from_slice(kept);
+        let got = piped(|result| match (pipe.way, piece) {
+            (Way::To, Some(input)) => c.to_unicode_piece(r, m, &mut k, input, output, scheme, s, skip, result),
+            (Way::From, Some(input)) => c.from_unicode_piece(r, m, &mut k, input, output, scheme, f, s, skip, result),
+            (Way::To, None) => c.to_unicode_close(r, m, &mut k, output, scheme, s, skip, result),
+            (Way::From, None) => c.from_unicode_close(r, m, &mut k, output, scheme, f, s, skip, result),
+        });
+        assert!(k[5..] == [SMALL_CANARY; 3], "kept slice: places behind were changed");
+        kept.copy_from_slice(&k[..5]);
         got
     }
 

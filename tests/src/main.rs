@@ -3,12 +3,13 @@
 //! sets seed and number of random cases; case n of a run with seed s is case 0
 //! of a run with seed s + n. OBOEPOND_TRACE=1 names every random case before it
 //! runs. Arguments: none, everything; `program`, the program's tests alone;
-//! `stand-in`, run in the program's place; `season N`, a long run of the
-//! program with N MB of each kind of lines; `pages`, the pages and the widths
-//! of lines alone.
+//! `pieces`, reading in pieces alone; `stand-in`, run in the program's place;
+//! `season N`, a long run of the program with N MB of each kind of lines;
+//! `pages`, the pages and the widths of lines alone.
 
 #[cfg(not(feature = "oracle-only"))]
 mod abi;
+mod bursts;
 mod by_hand;
 mod cable;
 #[rustfmt::skip]
@@ -23,6 +24,7 @@ mod lookups;
 mod memory;
 mod oracle;
 mod pages;
+mod pieces;
 mod program;
 mod program_cases;
 mod program_random;
@@ -142,6 +144,7 @@ fn subject_cases(s: &dyn Subject, what: &str, list: Vec<cases::Case>, tally: &mu
 fn hand_written(s: &dyn Subject, tally: &mut Tally) {
     subject_cases(s, "hand-written cases", cases::all().cases, tally);
     subject_cases(s, "cases of the cable", cable::cases(), tally);
+    subject_cases(s, "cases of reading in pieces", pieces::cases(), tally);
 }
 
 /// The generator of case `i` of a group.
@@ -190,18 +193,31 @@ fn random_group(
     Ok(())
 }
 
+/// The share of a group.
+fn run_group(
+    s: &dyn Subject,
+    group: &Group,
+    compare: bool,
+    seed: u64,
+    count: u64,
+    reached: &mut Reached,
+    tally: &mut Tally,
+) {
+    let start = Instant::now();
+    tally.here = 0;
+    let n = (count * group.share / 1000).max(1);
+    let outcome = random_group(s, group, compare, seed, n, reached);
+    println!("[{}] {}: {n} cases, {:.1} s", s.name(), group.name, start.elapsed().as_secs_f64());
+    tally.count(s.name(), group.name, outcome);
+}
+
 fn random_groups(s: &dyn Subject, compare: bool, seed: u64, count: u64, tally: &mut Tally) {
     let mut reached = Reached::default();
     for group in GROUPS {
-        if !compare && !group.on_oracle {
-            continue; // nothing known by construction to hold the oracle against
+        // Else nothing is known by construction to hold the oracle against.
+        if compare || group.on_oracle {
+            run_group(s, group, compare, seed, count, &mut reached, tally);
         }
-        let start = Instant::now();
-        tally.here = 0;
-        let n = (count * group.share / 1000).max(1);
-        let outcome = random_group(s, group, compare, seed, n, &mut reached);
-        println!("[{}] {}: {n} cases, {:.1} s", s.name(), group.name, start.elapsed().as_secs_f64());
-        tally.count(s.name(), group.name, outcome);
     }
     for (what, _) in TO_REACH {
         let seen: Vec<String> = reached
@@ -287,6 +303,7 @@ fn main() {
     match arguments[..] {
         [] => all_tests(false),
         ["program"] => all_tests(true),
+        ["pieces"] => pieces_alone(),
         ["pages"] => {
             pages_tests(&mut Tally::default());
             finish()
@@ -297,7 +314,7 @@ fn main() {
             std::process::exit(if right { 0 } else { 1 });
         }
         _ => {
-            println!("arguments: none, `program`, `stand-in`, `season N` or `pages`");
+            println!("arguments: none, `program`, `pieces`, `stand-in`, `season N` or `pages`");
             std::process::exit(2);
         }
     }
@@ -315,6 +332,27 @@ fn all_tests(program_alone: bool) -> ! {
     program_cases(&StandIn, &mut tally);
     if program_alone || !cfg!(feature = "oracle-only") {
         program_tests(seed, count, &mut tally);
+    }
+    finish()
+}
+
+/// Reading in pieces: the cases by hand, the C calls, the random groups.
+fn pieces_alone() -> ! {
+    let (seed, count) = settings();
+    println!("OBOEPOND_CASES=\"{seed}:{count}\"");
+    watch();
+    let mut tally = Tally::default();
+    let mut run = |s: &dyn Subject, compare: bool| {
+        subject_cases(s, "cases of reading in pieces", pieces::cases(), &mut tally);
+        for group in GROUPS.iter().filter(|group| group.name.starts_with("pieces") && (compare || group.on_oracle)) {
+            run_group(s, group, compare, seed, count, &mut Reached::default(), &mut tally);
+        }
+    };
+    run(&Oracle, false);
+    #[cfg(not(feature = "oracle-only"))]
+    {
+        run(&library::Library, true);
+        library_cases("the C calls", &[abi::CASES, stack::CASES].concat(), &mut tally);
     }
     finish()
 }

@@ -3,7 +3,7 @@
 //! be easy to hold against the documents, rule by rule and number by number.
 //!
 //! The text is first turned into its meaning, a `Table`. All rules (T1 to T9),
-//! both pipes and the audit are functions of that meaning. `form` turns a
+//! both pipes, whole and in pieces, and the audit are functions of that meaning. `form` turns a
 //! meaning into the fixed numbers of record and memory, `meaning_of` goes back.
 
 pub use crate::memory::Memory;
@@ -1207,6 +1207,34 @@ fn pipe(
     Piped { number, read: read as u64, written: written as u64, length: illegal as u64 }
 }
 
+/// The step of the first code in a frame, or what stops there.
+fn one_code(t: &Table, lines: &Lines, rest: &[u8], scheme: Scheme, settings: Settings) -> Result<Step, Stop> {
+    match cut_code(&t.rows, rest) {
+        Sequence::CutShort => Err(Stop::CutShort),
+        Sequence::Illegal(length) => Err(Stop::Illegal(length)),
+        Sequence::Whole((), length) => match lines.reads(&rest[..length]) {
+            Some(cp) => Ok((length, character(scheme, cp))),
+            None if !settings.substitute => Err(Stop::Unassigned),
+            None if length == 1 && t.subchar1.is_some() => Ok((length, character(scheme, 0x1a))),
+            None => Ok((length, character(scheme, 0xfffd))),
+        },
+    }
+}
+
+/// The same for the first character in a text.
+fn one_character(t: &Table, lines: &Lines, rest: &[u8], scheme: Scheme, settings: Settings) -> Result<Step, Stop> {
+    match cut_character(scheme, rest) {
+        Sequence::CutShort => Err(Stop::CutShort),
+        Sequence::Illegal(length) => Err(Stop::Illegal(length)),
+        Sequence::Whole(cp, length) => match lines.writes(cp, settings.fallback) {
+            Some(code) => Ok((length, code.to_vec())),
+            None if !settings.substitute => Err(Stop::Unassigned),
+            None if lines.sub1.contains(&cp) => Ok((length, vec![t.subchar1.expect("T8")])),
+            None => Ok((length, t.subchar.clone())),
+        },
+    }
+}
+
 /// With the table's lines at hand, for many frames.
 pub fn to_unicode(
     t: &Table,
@@ -1219,16 +1247,7 @@ pub fn to_unicode(
     let mark = (0, mark_to_write(scheme));
     // U+FFFD, never U+001A (S7).
     let skipped = settings.skip.then(|| character(scheme, 0xfffd));
-    pipe(input, output, mark, skipped, |rest| match cut_code(&t.rows, rest) {
-        Sequence::CutShort => Err(Stop::CutShort),
-        Sequence::Illegal(length) => Err(Stop::Illegal(length)),
-        Sequence::Whole((), length) => match lines.reads(&rest[..length]) {
-            Some(cp) => Ok((length, character(scheme, cp))),
-            None if !settings.substitute => Err(Stop::Unassigned),
-            None if length == 1 && t.subchar1.is_some() => Ok((length, character(scheme, 0x1a))),
-            None => Ok((length, character(scheme, 0xfffd))),
-        },
-    })
+    pipe(input, output, mark, skipped, |rest| one_code(t, lines, rest, scheme, settings))
 }
 
 pub fn from_unicode(
@@ -1243,16 +1262,226 @@ pub fn from_unicode(
     let mark = (length, Vec::new());
     // subchar, never subchar1 (S7).
     let skipped = settings.skip.then(|| t.subchar.clone());
-    pipe(input, output, mark, skipped, |rest| match cut_character(scheme, rest) {
-        Sequence::CutShort => Err(Stop::CutShort),
-        Sequence::Illegal(length) => Err(Stop::Illegal(length)),
-        Sequence::Whole(cp, length) => match lines.writes(cp, settings.fallback) {
-            Some(code) => Ok((length, code.to_vec())),
-            None if !settings.substitute => Err(Stop::Unassigned),
-            None if lines.sub1.contains(&cp) => Ok((length, vec![t.subchar1.expect("T8")])),
-            None => Ok((length, t.subchar.clone())),
-        },
-    })
+    pipe(input, output, mark, skipped, |rest| one_character(t, lines, rest, scheme, settings))
+}
+
+// ---------------------------------------------------------------------------
+// Reading in pieces
+// ---------------------------------------------------------------------------
+
+#[derive(Clone, Copy, PartialEq, Eq, Debug)]
+pub enum Way {
+    /// From the table's bytes to Unicode.
+    To,
+    From,
+}
+
+/// A conversion, the same in all calls of one text.
+#[derive(Clone, Copy, PartialEq, Eq, Debug)]
+pub struct Pipe {
+    pub way: Way,
+    pub scheme: Scheme,
+    pub settings: Settings,
+}
+
+impl Pipe {
+    fn writes_mark(self) -> bool {
+        self.way == Way::To && self.scheme == Scheme::Utf32
+    }
+
+    fn reads_mark(self) -> bool {
+        self.way == Way::From && self.scheme == Scheme::Utf32
+    }
+}
+
+/// What is kept between calls: bytes (as a code's bits), their count, the mark, the
+/// standing answer, and the length that goes with a standing 52.
+pub type Kept = [u32; 5];
+
+pub const FRESH: Kept = [0; 5];
+
+// Values of the mark. Only plain UTF-32 has one that is ever behind.
+const AHEAD: u32 = 0;
+const BIG: u32 = 1;
+const LITTLE: u32 = 2;
+
+/// The kept numbers by their meaning.
+struct Held {
+    bytes: Vec<u8>,
+    mark: u32,
+    standing: u32,
+    length: u32,
+}
+
+impl Held {
+    /// None is 42.
+    fn of(t: &Table, pipe: Pipe, kept: &Kept) -> Option<Held> {
+        let [bits, count, mark, standing, length] = *kept;
+        let held = Held { bytes: code_of(bits, count)?, mark, standing, length };
+        let fits = held.bytes_fit(t, pipe) && held.mark_fits(pipe) && held.standing_fits(pipe);
+        fits.then_some(held)
+    }
+
+    fn numbers(&self) -> Kept {
+        [bits_of(&self.bytes), self.bytes.len() as u32, self.mark, self.standing, self.length]
+    }
+
+    /// At most three bytes, an unfinished sequence; or, while skipping in UTF-8, one
+    /// or two trail bytes. In UTF-32 any bytes are unfinished.
+    fn bytes_fit(&self, t: &Table, pipe: Pipe) -> bool {
+        let bytes = &self.bytes;
+        let unfinished = bytes.is_empty()
+            || match pipe.way {
+                Way::To => matches!(cut_code(&t.rows, bytes), Sequence::CutShort),
+                Way::From => matches!(cut_character(pipe.scheme, bytes), Sequence::CutShort),
+            };
+        let skips_utf8 = pipe.way == Way::From && pipe.scheme == Scheme::Utf8 && pipe.settings.skip;
+        let trails = bytes.len() <= 2 && bytes.iter().all(|b| (0x80..=0xbf).contains(b));
+        bytes.len() <= 3 && (unfinished || skips_utf8 && trails)
+    }
+
+    /// The first call that is not 50 writes the mark, so nothing is kept before it.
+    fn mark_fits(&self, pipe: Pipe) -> bool {
+        match self.mark {
+            AHEAD => !pipe.writes_mark() || self.bytes.is_empty() && self.standing == 0,
+            BIG => pipe.writes_mark() || pipe.reads_mark(),
+            LITTLE => pipe.reads_mark(),
+            _ => false,
+        }
+    }
+
+    /// 51 stands for bytes that are kept. An illegal sequence has at least those,
+    /// and towards the panel the length of a code unit.
+    fn standing_fits(&self, pipe: Pipe) -> bool {
+        match (self.standing, pipe.way) {
+            (0 | 53, _) => self.length == 0,
+            (51, _) => self.length == 0 && !self.bytes.is_empty(),
+            (52, Way::To) => (1..=4).contains(&self.length) && self.bytes.len() <= self.length as usize,
+            (52, Way::From) => self.length == if pipe.scheme == Scheme::Utf8 { 1 } else { 4 },
+            _ => false,
+        }
+    }
+
+    /// The standing answer: nothing read, written or changed.
+    fn stands(&self) -> Option<Piped> {
+        (self.standing != 0).then(|| nothing_done(self.standing, self.length as usize))
+    }
+
+    /// Writes the mark if it is ahead. Gives how much is written; None where it does
+    /// not fit.
+    fn begin(&mut self, pipe: Pipe, output: &mut [u8]) -> Option<usize> {
+        if !pipe.writes_mark() || self.mark != AHEAD {
+            return Some(0);
+        }
+        let mark = mark_to_write(pipe.scheme);
+        output.get_mut(..mark.len())?.copy_from_slice(&mark);
+        self.mark = BIG;
+        Some(mark.len())
+    }
+}
+
+fn nothing_done(number: u32, length: usize) -> Piped {
+    Piped { number, read: 0, written: 0, length: length as u64 }
+}
+
+/// The step for the bytes at hand, and the mark behind it. Cut short means that
+/// another byte is needed.
+fn next_step(t: &Table, lines: &Lines, pipe: Pipe, mark: u32, hand: &[u8]) -> Result<(Step, u32), Stop> {
+    if hand.is_empty() {
+        return Err(Stop::CutShort);
+    }
+    if pipe.way == Way::To {
+        let step = one_code(t, lines, hand, pipe.scheme, pipe.settings);
+        return skipped(pipe, step, || character(pipe.scheme, 0xfffd)).map(|step| (step, mark));
+    }
+    if pipe.reads_mark() && mark == AHEAD {
+        match mark_read(pipe.scheme, hand) {
+            (_, 0) => {}
+            (order, length) => return Ok(((length, Vec::new()), if order == Scheme::Utf32Le { LITTLE } else { BIG })),
+        }
+    }
+    let scheme = if mark == LITTLE { Scheme::Utf32Le } else { pipe.scheme };
+    // Plain UTF-32 is big-endian once four bytes without a mark are through.
+    let behind = if pipe.reads_mark() { mark.max(BIG) } else { mark };
+    let step = one_character(t, lines, hand, scheme, pipe.settings);
+    skipped(pipe, step, || t.subchar.clone()).map(|step| (step, behind))
+}
+
+/// With skipping on, an illegal sequence gives what is written instead.
+fn skipped(pipe: Pipe, step: Result<Step, Stop>, instead: impl Fn() -> Vec<u8>) -> Result<Step, Stop> {
+    match step {
+        Err(Stop::Illegal(length)) if pipe.settings.skip => Ok((length, instead())),
+        step => step,
+    }
+}
+
+/// One call with a piece, byte by byte.
+pub fn piece(t: &Table, lines: &Lines, pipe: Pipe, kept: &mut Kept, piece: &[u8], output: &mut [u8]) -> Piped {
+    let Some(mut held) = Held::of(t, pipe, kept) else {
+        return nothing_done(42, 0);
+    };
+    if let Some(answer) = held.stands() {
+        return answer;
+    }
+    let Some(mut written) = held.begin(pipe, output) else {
+        return nothing_done(50, 0);
+    };
+    // Bytes at hand are not yet through; so many of the piece were taken.
+    let (mut hand, mut taken) = (held.bytes.clone(), 0);
+    let (number, length) = loop {
+        match next_step(t, lines, pipe, held.mark, &hand) {
+            Ok(((length, out), mark)) => {
+                let Some(place) = output.get_mut(written..written + out.len()) else {
+                    break (50, 0);
+                };
+                place.copy_from_slice(&out);
+                written += out.len();
+                hand.drain(..length);
+                held.mark = mark;
+            }
+            Err(Stop::CutShort) if taken < piece.len() => {
+                hand.push(piece[taken]);
+                taken += 1;
+            }
+            Err(Stop::CutShort) => break (0, 0),
+            Err(Stop::Illegal(length)) => break (52, length),
+            Err(Stop::Unassigned) => break (53, 0),
+        }
+    };
+    let mut read = taken;
+    if number != 0 {
+        // Those of the piece are given back; those of earlier calls stay kept.
+        let back = taken.min(hand.len());
+        read -= back;
+        hand.truncate(hand.len() - back);
+    }
+    held.bytes = hand;
+    if number != 50 {
+        (held.standing, held.length) = (number, length as u32);
+    }
+    *kept = held.numbers();
+    Piped { number, read: read as u64, written: written as u64, length: length as u64 }
+}
+
+/// The closing call: 51 if bytes are kept; else a fresh start, the mark being
+/// written if no call has done so.
+pub fn close(t: &Table, pipe: Pipe, kept: &mut Kept, output: &mut [u8]) -> Piped {
+    let Some(mut held) = Held::of(t, pipe, kept) else {
+        return nothing_done(42, 0);
+    };
+    if let Some(answer) = held.stands() {
+        return answer;
+    }
+    if !held.bytes.is_empty() {
+        held.standing = 51;
+        *kept = held.numbers();
+        return nothing_done(51, 0);
+    }
+    let Some(written) = held.begin(pipe, output) else {
+        return nothing_done(50, 0);
+    };
+    *kept = FRESH;
+    Piped { number: 0, read: 0, written: written as u64, length: 0 }
 }
 
 // ---------------------------------------------------------------------------

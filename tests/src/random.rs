@@ -4,11 +4,12 @@
 //! behind, whole outputs. Every conversion is made without skipping and with it.
 //! A failing case is shrunk and printed.
 
+use crate::bursts::{self, Caller, Plan};
 use crate::by_hand::{self, First, Joined};
 use crate::cases::{equal, equal_memory, equal_slices, junk, old_bytes, old_entries};
 use crate::gen::{self, Change, Made, Rng};
-use crate::oracle::{self, Cell, Kind, Lines, Memory, Piped, Record, Scheme, Settings, Table};
-use crate::oracle::{MAPPING_PLACES, STATE_PLACES};
+use crate::oracle::{self, Cell, Kept, Kind, Lines, Memory, Pipe, Piped, Record, Scheme, Settings, Table, Way};
+use crate::oracle::{FRESH, MAPPING_PLACES, STATE_PLACES};
 use crate::subject::{Oracle, Subject};
 use std::collections::BTreeMap;
 use std::time::{Duration, Instant};
@@ -136,6 +137,19 @@ pub enum Act {
         substitute: bool,
         known: Option<[Outcome; 2]>,
     },
+    /// A text read in pieces, by one plan after the other.
+    Pieces {
+        pipe: Pipe,
+        input: Vec<u8>,
+        plans: Vec<Plan>,
+    },
+    /// One call with what is kept by chance; no piece closes.
+    Kept {
+        pipe: Pipe,
+        kept: Kept,
+        piece: Option<Vec<u8>>,
+        space: usize,
+    },
     /// Pieces (allowance, space) from a position on, each from where the last
     /// one ended. `whole`: they end at the finish, and joined they are the
     /// plain list.
@@ -174,7 +188,7 @@ pub struct Reached {
 }
 
 impl Reached {
-    fn note(&mut self, what: &str, number: u32) {
+    pub fn note(&mut self, what: &str, number: u32) {
         *self.counts.entry((what.to_string(), number)).or_insert(0) += 1;
     }
 }
@@ -206,9 +220,41 @@ pub const TO_REACH: &[(&str, &[u32])] = &[
     (BREAKING, &[1, 2, 3, 4, 5]),
     (BYTES_OF_TEXT, &[1, 4]),
     (MANY, &[2, 3, 4]),
+    ("piece to UTF-8", PIECE_NUMBERS),
+    ("piece to UTF-32BE", PIECE_NUMBERS),
+    ("piece to UTF-32LE", PIECE_NUMBERS),
+    ("piece to UTF-32", PIECE_NUMBERS),
+    ("piece from UTF-8", PIECE_NUMBERS),
+    ("piece from UTF-32BE", PIECE_NUMBERS),
+    ("piece from UTF-32LE", PIECE_NUMBERS),
+    ("piece from UTF-32", PIECE_NUMBERS),
+    ("close to UTF-8", CLOSE_NUMBERS),
+    ("close to UTF-32BE", CLOSE_NUMBERS),
+    ("close to UTF-32LE", CLOSE_NUMBERS),
+    ("close to UTF-32", PIECE_NUMBERS),
+    ("close from UTF-8", CLOSE_NUMBERS),
+    ("close from UTF-32BE", CLOSE_NUMBERS),
+    ("close from UTF-32LE", CLOSE_NUMBERS),
+    ("close from UTF-32", CLOSE_NUMBERS),
+    ("piece to UTF-8, bytes kept", KEPT_COUNTS),
+    ("piece to UTF-32, bytes kept", KEPT_COUNTS),
+    ("piece from UTF-8, bytes kept", KEPT_COUNTS),
+    ("piece from UTF-32BE, bytes kept", KEPT_COUNTS),
+    ("piece from UTF-32LE, bytes kept", KEPT_COUNTS),
+    ("piece from UTF-32, bytes kept", KEPT_COUNTS),
+    ("close to UTF-8, bytes kept", KEPT_COUNTS),
+    ("close from UTF-8, bytes kept", KEPT_COUNTS),
+    ("close from UTF-32, bytes kept", KEPT_COUNTS),
+    ("trail bytes kept", &[1, 2]),
     ("audit", &[0, 40, 60]),
     ("cause", &[1, 2, 3, 4]),
 ];
+
+/// In pieces 51 is given by the close, and stands.
+const PIECE_NUMBERS: &[u32] = &[0, 42, 50, 51, 52, 53, 60];
+/// Only a mark that is to be written can find no space at the close.
+const CLOSE_NUMBERS: &[u32] = &[0, 42, 51, 52, 53, 60];
+const KEPT_COUNTS: &[u32] = &[1, 2, 3];
 
 const PIPE_NUMBERS: &[u32] = &[0, 50, 51, 52, 53, 60];
 /// With skipping on 52 is never given.
@@ -364,6 +410,23 @@ fn run_act(
             for (_, length) in as_by_hand(s, *scheme, FULL_FROM, spaces, reached, &by_hand, &convert)? {
                 equal("length of an illegal sequence", length, if *scheme == Scheme::Utf8 { 1 } else { 4 })?;
                 reached.note(BYTES_OF_TEXT, length as u32);
+            }
+            Ok(())
+        }
+        Act::Pieces { pipe, input, plans } => {
+            let mut caller = Caller { s, record, memory, pipe: *pipe, compare, kept: FRESH };
+            for plan in plans {
+                caller.text(input, plan, reached).map_err(|why| format!("{plan:?}: {why}"))?;
+            }
+            Ok(())
+        }
+        Act::Kept { pipe, kept, piece, space } => {
+            let mut caller = Caller { s, record, memory, pipe: *pipe, compare, kept: *kept };
+            let (got, _) = caller.call(piece.as_deref(), *space)?;
+            caller.note(piece.is_some(), got.number, reached);
+            if matches!(got.number, 42 | 60) {
+                let nothing = Piped { number: got.number, read: 0, written: 0, length: 0 };
+                equal("nothing is done", (got, caller.kept), (nothing, *kept))?;
             }
             Ok(())
         }
@@ -545,6 +608,12 @@ pub const GROUPS: &[Group] = &[
     Group { name: "to Unicode: frames damaged all over", share: 40, on_oracle: false, make: to_damaged },
     Group { name: "from Unicode: texts damaged all over", share: 40, on_oracle: false, make: from_damaged },
     Group { name: "pipes: long inputs over full tables", share: 10, on_oracle: false, make: pipe_full },
+    Group { name: "pieces: known texts and stops, cut", share: 20, on_oracle: true, make: pieces_known },
+    Group { name: "pieces: valid, damaged, cut texts", share: 40, on_oracle: true, make: pieces_random },
+    Group { name: "pieces: texts damaged all over", share: 40, on_oracle: true, make: pieces_damaged },
+    Group { name: "pieces: long inputs over full tables", share: 4, on_oracle: true, make: pieces_full },
+    Group { name: "pieces: kept states by chance", share: 120, on_oracle: false, make: kept_random },
+    Group { name: "pieces over changed memory", share: 50, on_oracle: false, make: kept_changed },
     Group { name: "pipes and audit over changed memory", share: 30, on_oracle: false, make: act_changed },
     Group { name: "audit: random calls", share: 30, on_oracle: false, make: audit_random },
     Group { name: "audit: pieces joined, one run, plain list", share: 20, on_oracle: true, make: audit_pieces },
@@ -864,6 +933,94 @@ fn pipe_full(rng: &mut Rng) -> Input {
     Input::Memory { base: gen::text_of(rng, &made), changes: Vec::new(), lengths: lengths(rng), act }
 }
 
+/// Any conversion in pieces.
+fn a_pipe(rng: &mut Rng) -> Pipe {
+    let settings = Settings { fallback: rng.one_in(2), substitute: rng.one_in(2), skip: rng.one_in(2) };
+    Pipe { way: if rng.one_in(2) { Way::To } else { Way::From }, scheme: a_scheme(rng), settings }
+}
+
+fn in_pieces(rng: &mut Rng, made: &Made, pipe: Pipe, input: Vec<u8>) -> Input {
+    let plans = bursts::plans(rng, input.len());
+    let act = Act::Pieces { pipe, input, plans };
+    Input::Memory { base: gen::text_of(rng, made), changes: Vec::new(), lengths: lengths(rng), act }
+}
+
+/// The inputs of the known conversions: the pieces are held against one of them.
+fn pieces_known(rng: &mut Rng) -> Input {
+    let Input::Memory { base, changes, lengths, act } = pipe_known(rng) else { unreachable!("a conversion") };
+    let skip = rng.one_in(2);
+    let (pipe, input) = match act {
+        Act::To { scheme, input, substitute, .. } => {
+            (Pipe { way: Way::To, scheme, settings: Settings { fallback: false, substitute, skip } }, input)
+        }
+        Act::From { scheme, input, fallback, substitute, .. } => {
+            (Pipe { way: Way::From, scheme, settings: Settings { fallback, substitute, skip } }, input)
+        }
+        _ => unreachable!("a conversion"),
+    };
+    let plans = bursts::plans(rng, input.len());
+    Input::Memory { base, changes, lengths, act: Act::Pieces { pipe, input, plans } }
+}
+
+/// Few characters mostly, which are cut everywhere.
+fn few_items(rng: &mut Rng) -> usize {
+    *rng.pick(&[1, 2, 2, 3, 8, 60])
+}
+
+fn pieces_random(rng: &mut Rng) -> Input {
+    let (made, pipe, items) = (a_fragile_table(rng), a_pipe(rng), few_items(rng));
+    let input = match pipe.way {
+        Way::To => gen::random_frame(rng, &made.table, items),
+        Way::From => gen::random_text(rng, &made.table, pipe.scheme, items),
+    };
+    in_pieces(rng, &made, pipe, input)
+}
+
+fn pieces_damaged(rng: &mut Rng) -> Input {
+    let (made, pipe, items) = (a_fragile_table(rng), a_pipe(rng), few_items(rng));
+    let input = match pipe.way {
+        Way::To => gen::damaged_frame(rng, &made.table, items),
+        Way::From => gen::damaged_text(rng, &made.table, pipe.scheme, items),
+    };
+    in_pieces(rng, &made, pipe, input)
+}
+
+fn pieces_full(rng: &mut Rng) -> Input {
+    let n = *rng.pick(&[500, 2047, 2048]);
+    let (made, pipe) = (gen::full_table(rng, n), a_pipe(rng));
+    let input = match pipe.way {
+        Way::To => gen::random_frame(rng, &made.table, 2000),
+        Way::From => gen::random_text(rng, &made.table, pipe.scheme, 2000),
+    };
+    in_pieces(rng, &made, pipe, input)
+}
+
+/// A call with a state by chance, and a piece or none.
+fn kept_act(rng: &mut Rng, t: &Table) -> Act {
+    let pipe = a_pipe(rng);
+    let kept = gen::random_kept(rng, t, pipe);
+    let piece = match (rng.below(4), pipe.way) {
+        (0, _) => None,
+        (1, _) => Some(Vec::new()),
+        (_, Way::To) => Some(gen::random_frame(rng, t, 3)),
+        (_, Way::From) => Some(gen::random_text(rng, t, pipe.scheme, 3)),
+    };
+    Act::Kept { pipe, kept, piece, space: *rng.pick(&[0, 1, 3, 4, 9, 40]) }
+}
+
+fn kept_random(rng: &mut Rng) -> Input {
+    let made = a_fragile_table(rng);
+    let act = kept_act(rng, &made.table);
+    Input::Memory { base: gen::text_of(rng, &made), changes: Vec::new(), lengths: lengths(rng), act }
+}
+
+fn kept_changed(rng: &mut Rng) -> Input {
+    let made = a_table(rng);
+    let changes = if rng.one_in(2) { vec![gen::one_change(rng, &made.table)] } else { broken(rng, &made) };
+    let act = kept_act(rng, &made.table);
+    Input::Memory { base: gen::text_of(rng, &made), changes, lengths: lengths(rng), act }
+}
+
 fn audit_act(rng: &mut Rng, t: &Table) -> Act {
     let pieces = (0..rng.range(1, 5))
         .map(|_| {
@@ -1046,6 +1203,25 @@ fn smaller_act(act: &Act) -> Vec<Act> {
                 out.extend(spaces.iter().map(|&s| with(input.clone(), vec![s])));
             }
         }
+        Act::Pieces { pipe, input, plans } => {
+            let with = |input: &[u8], plans: &[Plan]| Act::Pieces {
+                pipe: *pipe,
+                input: input.to_vec(),
+                plans: plans.to_vec(),
+            };
+            out.extend(fewer(plans).iter().map(|plans| with(input, plans)));
+            out.extend(fewer(input).iter().map(|input| with(input, plans)));
+            if let [plan] = &plans[..] {
+                let cuts = fewer(&plan.cuts).into_iter().map(|cuts| Plan { cuts, ..plan.clone() });
+                let spaces = fewer(&plan.spaces).into_iter().map(|spaces| Plan { spaces, ..plan.clone() });
+                out.extend(cuts.chain(spaces).map(|plan| with(input, &[plan])));
+            }
+        }
+        Act::Kept { pipe, kept, piece, space } => {
+            for piece in fewer(piece.as_deref().unwrap_or_default()) {
+                out.push(Act::Kept { pipe: *pipe, kept: *kept, piece: Some(piece), space: *space });
+            }
+        }
         Act::Audit { fallback, position, pieces, .. } => {
             for pieces in fewer(pieces) {
                 out.push(Act::Audit { fallback: *fallback, position: *position, pieces, whole: false });
@@ -1117,6 +1293,13 @@ pub fn show(input: &Input) -> String {
                     "  {}, fallback {fallback}, substitute {substitute}, spaces {spaces:?}, input {}\n",
                     call_name("from", *scheme, false),
                     show_hex(input)
+                ),
+                Act::Pieces { pipe, input, plans } => {
+                    format!("  in pieces, {pipe:?}, plans {plans:?}, input {}\n", show_hex(input))
+                }
+                Act::Kept { pipe, kept, piece, space } => format!(
+                    "  in pieces, {pipe:?}, kept {kept:x?}, space {space}, piece {}\n",
+                    piece.as_ref().map_or("none, a close".into(), |piece| show_hex(piece))
                 ),
                 Act::Audit { fallback, position, pieces, .. } => format!(
                     "  audit, fallback {fallback}, position {:08X} length {}, (allowance, space) {pieces:?}\n",

@@ -93,6 +93,66 @@ calls! {
         result: *mut u64, result_len: usize,
     );
 
+    to_unicode_piece = oboepond_to_unicode_piece(
+        record: *const u32, record_len: usize,
+        states: *const u16, states_len: usize,
+        codes: *const u32, codes_len: usize,
+        infos: *const u32, infos_len: usize,
+        order: *const u32, order_len: usize,
+        kept: *mut u32, kept_len: usize,
+        input: *const u8, input_len: usize,
+        output: *mut u8, output_len: usize,
+        scheme: u32,
+        substitute: u32,
+        skip: u32,
+        result: *mut u64, result_len: usize,
+    );
+
+    from_unicode_piece = oboepond_from_unicode_piece(
+        record: *const u32, record_len: usize,
+        states: *const u16, states_len: usize,
+        codes: *const u32, codes_len: usize,
+        infos: *const u32, infos_len: usize,
+        order: *const u32, order_len: usize,
+        kept: *mut u32, kept_len: usize,
+        input: *const u8, input_len: usize,
+        output: *mut u8, output_len: usize,
+        scheme: u32,
+        fallback: u32,
+        substitute: u32,
+        skip: u32,
+        result: *mut u64, result_len: usize,
+    );
+
+    to_unicode_close = oboepond_to_unicode_close(
+        record: *const u32, record_len: usize,
+        states: *const u16, states_len: usize,
+        codes: *const u32, codes_len: usize,
+        infos: *const u32, infos_len: usize,
+        order: *const u32, order_len: usize,
+        kept: *mut u32, kept_len: usize,
+        output: *mut u8, output_len: usize,
+        scheme: u32,
+        substitute: u32,
+        skip: u32,
+        result: *mut u64, result_len: usize,
+    );
+
+    from_unicode_close = oboepond_from_unicode_close(
+        record: *const u32, record_len: usize,
+        states: *const u16, states_len: usize,
+        codes: *const u32, codes_len: usize,
+        infos: *const u32, infos_len: usize,
+        order: *const u32, order_len: usize,
+        kept: *mut u32, kept_len: usize,
+        output: *mut u8, output_len: usize,
+        scheme: u32,
+        fallback: u32,
+        substitute: u32,
+        skip: u32,
+        result: *mut u64, result_len: usize,
+    );
+
     audit = oboepond_audit(
         record: *const u32, record_len: usize,
         states: *const u16, states_len: usize,

@@ -15,6 +15,8 @@ pub const CASES: &[AbiCase] = &[
     ("from UTF-8: at most 36 KiB of stack", from_utf8),
     ("to Unicode: at most 36 KiB of stack", to_unicode),
     ("from Unicode: at most 36 KiB of stack", from_unicode),
+    ("to Unicode in pieces: at most 36 KiB of stack", to_pieces),
+    ("from Unicode in pieces: at most 68 KiB of stack", from_pieces),
     ("audit: at most 3 KiB of stack", audit),
 ];
 
@@ -168,6 +170,87 @@ fn from_unicode() -> Result<(), String> {
                 LINKED.from_unicode(record, memory, &input, &mut output, scheme, 1, 1, skip, &mut result);
             })?;
             equal("read", result[0], input.len() as u64)?;
+        }
+        Ok(())
+    })
+}
+
+/// Where a text is cut: before, inside and behind its first sequences, and late.
+fn cuts(n: usize) -> impl Iterator<Item = usize> {
+    [0, 1, 2, 3, 5, 67, n].into_iter().filter(move |&cut| cut <= n)
+}
+
+fn to_pieces() -> Result<(), String> {
+    over_tables(|record, memory| {
+        let calls = (0..8).flat_map(|call| [0, 1, 63, 64, 5000].map(|n| (call / 2, call % 2, n)));
+        for ((scheme, skip, n), last) in calls.flat_map(|call| [(call, &b"\x3f"[..]), (call, b"\x81")]) {
+            let input = [&turns(n, b"\x3f", b"\xff", skip), last].concat();
+            for cut in cuts(input.len()) {
+                let (mut kept, mut output, mut result) = ([0; 5], vec![0; 4 * n + 8], [0; 3]);
+                let mut read = 0;
+                for piece in [&input[..cut], &input[cut..]] {
+                    at_most(&format!("to Unicode in pieces, scheme {scheme}"), 36 * KIB, &mut || {
+                        LINKED.to_unicode_piece(
+                            record,
+                            memory,
+                            &mut kept,
+                            piece,
+                            &mut output,
+                            scheme,
+                            1,
+                            skip,
+                            &mut result,
+                        );
+                    })?;
+                    read += result[0];
+                }
+                equal("read", read, n as u64 + 1)?;
+                at_most(&format!("to Unicode, close, scheme {scheme}"), 3 * KIB, &mut || {
+                    LINKED.to_unicode_close(record, memory, &mut kept, &mut output, scheme, 1, skip, &mut result);
+                })?;
+            }
+        }
+        Ok(())
+    })
+}
+
+fn from_pieces() -> Result<(), String> {
+    over_tables(|record, memory| {
+        let utf8: [&[u8]; 3] = [b"C", b"\xff", b"\xf0\x90\x80"];
+        let big: [&[u8]; 3] = [b"\x00\x00\x00C", b"\x00\x00\xd8\x00", b"\x00\x00\x00"];
+        let little: [&[u8]; 3] = [b"C\x00\x00\x00", b"\x00\xd8\x00\x00", b"C"];
+        let mark: &[u8] = b"\xff\xfe\x00\x00";
+        let texts = [(0, &b""[..], utf8), (1, b"", big), (2, b"", little), (3, b"", big), (3, mark, little)];
+        let lengths = [0, 1, 15, 64, 5000];
+        let calls =
+            texts.into_iter().flat_map(|text| lengths.into_iter().flat_map(move |n| [(text, n, 0), (text, n, 1)]));
+        for ((scheme, front, [good, bad, last]), n, skip) in calls {
+            let input = [front, &turns(n, good, bad, skip), last].concat();
+            for cut in cuts(input.len()) {
+                let (mut kept, mut output, mut result) = ([0; 5], vec![0; 4 * n + 4], [0; 3]);
+                let mut read = 0;
+                for piece in [&input[..cut], &input[cut..]] {
+                    at_most(&format!("from Unicode in pieces, scheme {scheme}"), 68 * KIB, &mut || {
+                        LINKED.from_unicode_piece(
+                            record,
+                            memory,
+                            &mut kept,
+                            piece,
+                            &mut output,
+                            scheme,
+                            1,
+                            1,
+                            skip,
+                            &mut result,
+                        );
+                    })?;
+                    read += result[0];
+                }
+                equal("read", read, input.len() as u64)?;
+                at_most(&format!("from Unicode, close, scheme {scheme}"), 3 * KIB, &mut || {
+                    LINKED.from_unicode_close(record, memory, &mut kept, &mut output, scheme, 1, 1, skip, &mut result);
+                })?;
+            }
         }
         Ok(())
     })

@@ -1,6 +1,6 @@
 //! What is tested: the oracle and the library behind one set of calls.
 
-use crate::oracle::{self, Audited, Lines, Loaded, Memory, Piped, Record, Scheme, Settings, Table};
+use crate::oracle::{self, Audited, Kept, Lines, Loaded, Memory, Pipe, Piped, Record, Scheme, Settings, Table};
 use std::cell::RefCell;
 use std::rc::Rc;
 
@@ -30,6 +30,17 @@ pub trait Subject {
         output: &mut [u8],
         scheme: Scheme,
         settings: Settings,
+    ) -> Piped;
+
+    /// One call of a conversion in pieces; no piece is the closing call.
+    fn piece(
+        &self,
+        record: &Record,
+        memory: &Memory,
+        pipe: Pipe,
+        kept: &mut Kept,
+        piece: Option<&[u8]>,
+        output: &mut [u8],
     ) -> Piped;
 
     #[allow(clippy::too_many_arguments)]
@@ -116,6 +127,22 @@ impl Subject for Oracle {
         match meaning(record, memory).as_deref() {
             Some((table, lines)) => oracle::from_unicode(table, lines, input, output, scheme, settings),
             None => PIPE_REFUSED,
+        }
+    }
+
+    fn piece(
+        &self,
+        record: &Record,
+        memory: &Memory,
+        pipe: Pipe,
+        kept: &mut Kept,
+        piece: Option<&[u8]>,
+        output: &mut [u8],
+    ) -> Piped {
+        match (meaning(record, memory).as_deref(), piece) {
+            (Some((table, lines)), Some(piece)) => oracle::piece(table, lines, pipe, kept, piece, output),
+            (Some((table, _)), None) => oracle::close(table, pipe, kept, output),
+            (None, _) => PIPE_REFUSED,
         }
     }
 

@@ -162,6 +162,124 @@ impl Calls {
         )
     }
 
+    pub fn to_unicode_piece(
+        &self,
+        record: &[u32],
+        m: &Memory,
+        kept: &mut [u32],
+        input: &[u8],
+        output: &mut [u8],
+        scheme: u32,
+        substitute: u32,
+        skip: u32,
+        result: &mut [u64],
+    ) -> u32 {
+        with_table!(
+            self.to_unicode_piece,
+            record,
+            m,
+            kept.as_mut_ptr(),
+            kept.len(),
+            input.as_ptr(),
+            input.len(),
+            output.as_mut_ptr(),
+            output.len(),
+            scheme,
+            substitute,
+            skip,
+            result.as_mut_ptr(),
+            result.len()
+        )
+    }
+
+    pub fn from_unicode_piece(
+        &self,
+        record: &[u32],
+        m: &Memory,
+        kept: &mut [u32],
+        input: &[u8],
+        output: &mut [u8],
+        scheme: u32,
+        fallback: u32,
+        substitute: u32,
+        skip: u32,
+        result: &mut [u64],
+    ) -> u32 {
+        with_table!(
+            self.from_unicode_piece,
+            record,
+            m,
+            kept.as_mut_ptr(),
+            kept.len(),
+            input.as_ptr(),
+            input.len(),
+            output.as_mut_ptr(),
+            output.len(),
+            scheme,
+            fallback,
+            substitute,
+            skip,
+            result.as_mut_ptr(),
+            result.len()
+        )
+    }
+
+    pub fn to_unicode_close(
+        &self,
+        record: &[u32],
+        m: &Memory,
+        kept: &mut [u32],
+        output: &mut [u8],
+        scheme: u32,
+        substitute: u32,
+        skip: u32,
+        result: &mut [u64],
+    ) -> u32 {
+        with_table!(
+            self.to_unicode_close,
+            record,
+            m,
+            kept.as_mut_ptr(),
+            kept.len(),
+            output.as_mut_ptr(),
+            output.len(),
+            scheme,
+            substitute,
+            skip,
+            result.as_mut_ptr(),
+            result.len()
+        )
+    }
+
+    pub fn from_unicode_close(
+        &self,
+        record: &[u32],
+        m: &Memory,
+        kept: &mut [u32],
+        output: &mut [u8],
+        scheme: u32,
+        fallback: u32,
+        substitute: u32,
+        skip: u32,
+        result: &mut [u64],
+    ) -> u32 {
+        with_table!(
+            self.from_unicode_close,
+            record,
+            m,
+            kept.as_mut_ptr(),
+            kept.len(),
+            output.as_mut_ptr(),
+            output.len(),
+            scheme,
+            fallback,
+            substitute,
+            skip,
+            result.as_mut_ptr(),
+            result.len()
+        )
+    }
+
     pub fn audit(
         &self,
         record: &[u32],

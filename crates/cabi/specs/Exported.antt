@@ -4,10 +4,12 @@
 use Prim.Native.Nat.{ℕ}
 use mathlib.Core.Bool.{Bool, not}
 use mathlib.Core.List.{List, [], _∷_}
-use lib.Dec.{eqb, ltb}
+use lib.Dec.{eqb, ltb, leb}
 use lib.ListN.{length, getD}
-use Rattle.lists.specs.Pick.{if_then_else_}
+use Rattle.lists.specs.Pick.{if_then_else_, _and_, _or_}
 use Rattle.lists.specs.Place.{placed}
+use Rattle.unicode.specs.Utf8.{stopNumber}
+use Rattle.unicode.specs.declared.utf8.Stop.the-variants as stopped
 use Rattle.unicode.specs.declared.scheme.Scheme.{Scheme}
 use Rattle.unicode.specs.declared.scheme.Scheme.the-variants as scheme
 use Rattle.table.specs.Limits.{limits}
@@ -16,9 +18,17 @@ use Rattle.table.specs.Valid.{valid}
 use Rattle.table.specs.declared.valid.Record.{Record}
 use Rattle.table.specs.declared.load.Loaded.{Loaded}
 use Rattle.table.specs.declared.states.Code.{Code}
-use Rattle.convert.specs.Run.{Run, putOut, endNumber, runLength}
+use Rattle.convert.specs.Run.{Run, putBytes, putOut, endNumber, runLength}
 use Rattle.convert.specs.Convert.{toTested, fromTested}
+use Rattle.convert.specs.Pieces.{stateAt, placeAt, PieceAnswer, pieceTested, closeTested, pieceNumber, pieceLength}
+use Rattle.convert.specs.loops.Carried.{isRefused}
 use Rattle.convert.specs.declared.Settings.{Settings}
+use Rattle.convert.specs.declared.pieces.Way.{Way}
+use Rattle.convert.specs.declared.pieces.MarkPlace.the-variants.{Ahead}
+use Rattle.convert.specs.declared.pieces.Standing.{Standing}
+use Rattle.convert.specs.declared.pieces.Standing.the-variants as stands
+use Rattle.convert.specs.declared.pieces.Kept.{Kept}
+use Rattle.convert.specs.declared.pieces.PieceEnd.{PieceEnd}
 use Rattle.audit.specs.Audit.{auditTested, Answer as AuditAnswer}
 use Rattle.audit.specs.declared.Audited.{Audited}
 use Rattle.cabi.specs.declared.Named.{Named}
@@ -131,3 +141,94 @@ positionAt bits len = record { bits = bits; len = len }
 abbrev pub auditExported : List ℕ → Slices → ℕ → ℕ → ℕ → ℕ → ℕ → AuditAnswer
 auditExported rec m fallback bits len allowance space =
     auditTested limits (recordIn rec) m (isOn fallback) (positionAt bits len) allowance space
+
+-- ## Pieces
+
+-- the kept state as five numbers: bits and count of its bytes, the mark (0 ahead, 1 and 2 behind, big-endian and
+-- little-endian), the answer that stands (0 for none) and the length beside a 52. Others stand for a state that no call
+-- hands back: four bytes
+abbrev pub noKept : Kept
+noKept = record { bytes = record { bits = 0; len = 4 }; mark = Ahead; standing = stands.Nothing }
+
+abbrev pub standsAlone : ℕ → Bool
+standsAlone number = eqb number 0 or eqb number 51 or eqb number 53
+
+abbrev pub areKept : ℕ → ℕ → ℕ → Bool
+areKept mark number length = leb mark 2 and (eqb number 52 or eqb length 0 and standsAlone number)
+
+abbrev pub standingIn : ℕ → ℕ → Standing
+standingIn number length =
+    if eqb number 0 then stands.Nothing else
+    if eqb number 51 then stands.Stopped stopped.CutShort else
+    if eqb number 52 then stands.Stopped (stopped.Illegal length) else
+    stands.Stopped stopped.Unassigned
+
+unfoldable pub keptIn : List ℕ → Kept
+keptIn ns =
+    if areKept (getD ns 2 0) (getD ns 3 0) (getD ns 4 0) then
+    record {
+      bytes = record { bits = getD ns 0 0; len = getD ns 1 0 };
+      mark = placeAt (getD ns 2 0);
+      standing = standingIn (getD ns 3 0) (getD ns 4 0);
+    }
+    else noKept
+
+abbrev pub standingNumber : Standing → ℕ
+standingNumber stands.Nothing = 0
+standingNumber (stands.Stopped w) = stopNumber w
+
+abbrev pub standingLength : Standing → ℕ
+standingLength stands.Nothing = 0
+standingLength (stands.Stopped stopped.CutShort) = 0
+standingLength (stands.Stopped (stopped.Illegal n)) = n
+standingLength (stands.Stopped stopped.Unassigned) = 0
+
+abbrev pub keptNumbers : Kept → List ℕ
+keptNumbers k =
+    k .bytes .bits ∷ k .bytes .len ∷ stateAt (k .mark)
+    ∷ standingNumber (k .standing) ∷ standingLength (k .standing) ∷ []
+
+-- a call's number, and the kept state, the output and the result slice afterwards; a refusal leaves the kept state
+pub record PieceAnswered : Type 0 where
+  pub number : ℕ
+  pub kept : List ℕ
+  pub output : List ℕ
+  pub result : List ℕ
+
+abbrev pub keptAfter : PieceEnd → Kept → List ℕ → List ℕ
+keptAfter end k old = if isRefused end then old else withNumbers (keptNumbers k) old
+
+abbrev pub pieceNumbers : PieceAnswer → List ℕ
+pieceNumbers a = a .read ∷ length (a .bytes) ∷ pieceLength (a .end) ∷ []
+
+abbrev pub pieceUnanswered : ℕ → List ℕ → List ℕ → List ℕ → PieceAnswered
+pieceUnanswered n kept output result = record { number = n; kept = kept; output = output; result = result }
+
+abbrev pub pieceAnsweredBy : PieceAnswer → List ℕ → List ℕ → List ℕ → PieceAnswered
+pieceAnsweredBy a kept output result =
+    record {
+      number = pieceNumber (a .end);
+      kept = keptAfter (a .end) (a .kept) kept;
+      output = putBytes (a .bytes) output;
+      result = withNumbers (pieceNumbers a) result;
+    }
+
+abbrev pub pieceInScheme : Named → (Scheme → PieceAnswer) → List ℕ → List ℕ → List ℕ → PieceAnswered
+pieceInScheme named.None run kept output result = pieceUnanswered 71 kept output result
+pieceInScheme (named.Of e) run kept output result = pieceAnsweredBy (run e) kept output result
+
+-- any of the four calls: 70, then 71, then the answer
+unfoldable pub pieceAnswered :
+    List ℕ → ℕ → (Scheme → PieceAnswer) → List ℕ → List ℕ → List ℕ → PieceAnswered
+pieceAnswered rec n run kept output result =
+    let short = pieceUnanswered 70 kept output result in
+    ifFewer 5 kept short (ifShort 3 rec result short (pieceInScheme (schemeIn n) run kept output result))
+
+-- a call on a piece, and a close, by a way and settings
+abbrev pub pieceExported : Way → List ℕ → Slices → List ℕ → Settings → List ℕ → ℕ → Scheme → PieceAnswer
+pieceExported way rec m kept settings input room e =
+    pieceTested way e limits (recordIn rec) m settings (keptIn kept) input room
+
+abbrev pub closeExported : Way → List ℕ → Slices → List ℕ → Settings → ℕ → Scheme → PieceAnswer
+closeExported way rec m kept settings room e =
+    closeTested way e limits (recordIn rec) m settings (keptIn kept) room

@@ -1,5 +1,7 @@
 // The functions for C and Rust: each takes its arguments apart, calls the library, and writes the results into lent
 // slices.
+pub mod pieces;
+
 use audit::Audited;
 use convert::Converted;
 use convert::Settings;
@@ -23,24 +25,24 @@ ghost use Rattle.cabi.specs.Exported.{schemeIn, answered, toExported, fr
 ghost use Rattle.cabi.specs.Exported.{auditedNumbers, auditExported};
 
 // This layer's own numbers: a record or a result slice is too short; a number is no scheme. Nothing else happened then.
-const SHORT: u32 = 70;
+pub(crate) const SHORT: u32 = 70;
 
-const NO_SCHEME: u32 = 71;
+pub(crate) const NO_SCHEME: u32 = 71;
 
 // UTF-8 as a number.
 const UTF8: u32 = 0;
 
 // The scheme that a number names.
-enum Named {
+pub(crate) enum Named {
     Of(Scheme),
     None,
 }
 
 // The numbers of a record.
-const RECORD: usize = 7;
+pub(crate) const RECORD: usize = 7;
 
 // The record that seven numbers stand for.
-fn record_in(numbers: &[u32]) -> Record
+pub(crate) fn record_in(numbers: &[u32]) -> Record
     requires { ⌜ 7 ≤ length (now numbers) ⌝ }
     ensures { λ r. ⌜ r ≡ recordIn (now (numbers .entry)) ⌝ }
 {
@@ -58,7 +60,7 @@ fn record_in(numbers: &[u32]) -> Record
 }
 
 // Writes numbers to the front of a result slice.
-fn put_numbers(numbers: &[u64], result: &mut [u64])
+pub(crate) fn put_numbers(numbers: &[u64], result: &mut [u64])
     requires { ⌜ length (now numbers) ≤ length (now result) ⌝ }
     ensures { λ _. ⌜ now (result .exit) ≡ withNumbers (now (numbers .entry)) (now (result .entry)) ⌝ }
 {
@@ -156,7 +158,7 @@ pub extern "C" fn oboepond_check(
 }
 
 // The scheme that a number names.
-fn scheme_in(number: u32) -> Named
+pub(crate) fn scheme_in(number: u32) -> Named
     ensures { λ r. ⌜ r ≡ schemeIn number ⌝ }
 {
     match number {

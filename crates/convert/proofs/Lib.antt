@@ -7,7 +7,20 @@ pub mod Steps
 pub mod Text
 pub mod Schemes
 pub mod SkippedRuns
+pub mod PieceRuns
+pub mod JoinedPieces
+pub mod KeptForms
+pub mod PieceSteps
+pub mod PieceStops
+pub mod PieceKept
+mod PieceStates
+pub mod PieceCloses
+mod PieceTurns
+mod Settling
+pub mod PieceDue
+pub mod PieceGuard
 mod Marked
+mod PieceTests
 pub mod CompleteCodes
 pub mod ThereAndBack
 pub mod RoundTrips
@@ -17,3 +30,6 @@ pub mod LookUps
 mod Choices
 pub mod SameLines
 pub mod LoadedText
+pub mod PieceCalls
+pub mod PieceLengths
+mod PieceCases

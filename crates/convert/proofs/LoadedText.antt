@@ -40,7 +40,7 @@ use Rattle.convert.proofs.SchemeText.{round-trip-runs}
 
 -- two tables with the same rows and, as members, the same lines
 module _ (t u : Table) (s : SameTable u t) (apart : t9 (t .lines) ≡ true) where
-  steps-same : stepsOf u ≡ stepsOf t
+  pub steps-same : stepsOf u ≡ stepsOf t
   steps-same = ap stepsOn (s .same-rows)
 
   cut-same : (substitute : Bool) (x : List ℕ) (k : Cut) → onCut u substitute x k ≡ onCut t substitute x k
@@ -53,7 +53,7 @@ module _ (t u : Table) (s : SameTable u t) (apart : t9 (t .lines) ≡ true) wher
   sequence-same settings row x =
       ap (λ (step : Rows). onCut u (settings .substitute) x (cutOf step row x)) steps-same ∙ cut-same (settings .substitute) x (cutOf (stepsOf t) row x)
 
-  to-same : (side : Side) (settings : Settings) → toStep side u settings ≡ toStep side t settings
+  pub to-same : (side : Side) (settings : Settings) → toStep side u settings ≡ toStep side t settings
   unfolding toStep toPlain
   to-same side settings = λ i. skipping (settings .skip) (side .encode 0xfffd) (λ row x. encoded side row (sequence-same settings row x i))
 
@@ -67,17 +67,17 @@ module _ (t u : Table) (s : SameTable u t) (apart : t9 (t .lines) ≡ true) wher
   point-same side fallback substitute row (sequence.Scalar c n) =
       ap (sentFor u substitute row n) (writer⇒writes t u fallback c (same-writer t u s apart c)) ∙ sent-same substitute row n (writes t fallback c)
 
-  from-same : (side : Side) (settings : Settings) → fromStep side u settings ≡ fromStep side t settings
+  pub from-same : (side : Side) (settings : Settings) → fromStep side u settings ≡ fromStep side t settings
   unfolding fromStep fromPlain
   from-same side settings =
       λ i. skipping (settings .skip) (s .same-subchar i) (λ row x. point-same side (settings .fallback) (settings .substitute) row (side .decode x) i)
 
 -- a memory in the form of a table that keeps the rules
 module _ (t : Table) (p : Proper t) (k : Keeps limits t) (rec : Record) (m : Slices) (f : Form limits t rec m) where
-  kept : valid limits rec m ≡ true
+  pub kept : valid limits rec m ≡ true
   kept = form-valid limits t p k rec m f
 
-  held : SameTable (tableIn rec m) t
+  pub held : SameTable (tableIn rec m) t
   held = SameTable-tableIn limits t p k rec m f
 
   pub to-held : (e : Scheme) (settings : Settings) (x : List ℕ) (room : ℕ) → toTested e limits rec m settings x room ≡ toRun e t settings x room

@@ -186,7 +186,7 @@ module _ (t : Table) (settings : Settings) (row : ℕ) where
   illegal-by s n (cut.Stopped (cutStop.Illegal k)) e = let q : k ≡ n = cc in ap (λ (j : ℕ). cut.Stopped (cutStop.Illegal j)) q
   illegal-by s n (cut.Complete m kind) e = absurd (point-legal (t .subchar1) (settings .substitute) m (reader (take m s) (t .lines)) n e)
 
-  stop-by : (u : Side) (x : Sequence) (w : Stop) → encoded u row x ≡ stop w → x ≡ sequence.Stopped w
+  pub stop-by : (u : Side) (x : Sequence) (w : Stop) → encoded u row x ≡ stop w → x ≡ sequence.Stopped w
   stop-by u (sequence.Scalar c n) w e = absurd (let z : _≡_ {A = ℕ} 0 1 = cc in omega arith)
   stop-by u (sequence.Stopped y) w e = let q : y ≡ w = cc in ap sequence.Stopped q
 

@@ -33,7 +33,7 @@ use Rattle.convert.proofs.PartsOfFrames.{in-parts}
 use Rattle.convert.proofs.Steps.{to-sound, from-sound, toStep⇒Encoded}
 use Rattle.convert.proofs.Schemes.{writeIn-case, readIn-case}
 
-bytes-behind : (n : ℕ) (s : List ℕ) → AllByte s → AllByte (drop n s)
+pub bytes-behind : (n : ℕ) (s : List ℕ) → AllByte s → AllByte (drop n s)
 unfolding AllByte
 bytes-behind zero s h = h
 bytes-behind (suc n) [] h = h

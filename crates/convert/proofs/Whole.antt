@@ -1,7 +1,7 @@
--- Laws of any run whose step is sound: more space, more input, joined inputs, pieces, and an input made of sequences.
+-- Laws of any run whose step is sound: more space, more input, joined inputs, and an input made of sequences.
 use mathlib.Core.Path.{_≡_, refl, sym, ap, _∙_}
 use Prim.Native.Nat.{ℕ, _+_, _-_, _≤_, _<_}
-use mathlib.Core.List.{List, [], _∷_, _++_, append-nil, append-assoc, flatten}
+use mathlib.Core.List.{List, [], _∷_, _++_, append-nil}
 use native.Mathlib.Omega.{arith}
 use native.Mathlib.Nat.{add-zero}
 use lib.ListN.{length, drop, length-append, length-drop}
@@ -10,7 +10,7 @@ use Rattle.unicode.specs.declared.utf8.Stop.{Stop}
 use Rattle.convert.specs.Run.{give, stop, SequenceStep, Run, runOf, after, endedWith}
 use Rattle.convert.specs.Claims.{allRead}
 use Rattle.convert.specs.loops.Inner.{Sound, Stays}
-use Rattle.convert.specs.loops.Laws.{NotFull, fed}
+use Rattle.convert.specs.loops.Laws.{NotFull}
 use Rattle.convert.specs.declared.RunEnd.{RunEnd}
 use Rattle.convert.specs.declared.RunEnd.the-variants.{AllRead, OutputFull, Stopped}
 use Rattle.convert.proofs.Runs.{run-stop, run-more, every-run, after-after, after-none}
@@ -84,7 +84,8 @@ module _ (step : SequenceStep) (so : Sound step) where
       (λ st s room h bs n next e l. refl)
       (λ st s room h bs n next e l r ih. ih ∙ sym (stays st s bs n next e))
 
-  resumed-none : (h : RunEnd) (s t : List ℕ) (st room : ℕ) → runOf step st 0 (s ++ t) room ≡ resumed step s t room (endedWith h st)
+  -- nothing done
+  pub resumed-none : (h : RunEnd) (s t : List ℕ) (st room : ℕ) → runOf step st 0 (s ++ t) room ≡ resumed step s t room (endedWith h st)
   resumed-none h s t st room =
       let e : room - 0 ≡ room = omega arith in
       sym (after-none (runOf step st 0 (s ++ t) (room - 0)) ∙ ap (runOf step st 0 (s ++ t)) e)
@@ -112,16 +113,6 @@ module _ (step : SequenceStep) (so : Sound step) where
       resume s t st room
       ∙ ap (λ (n : ℕ). after n (r .bytes) (runOf step (r .state) 0 (drop n s ++ t) (room - length (r .bytes)))) (all-read s st room f)
       ∙ rw (drop-length s)
-
-  -- an input fed in pieces is converted as in one
-  pub pieces : (ps : List (List ℕ)) (st room : ℕ) (left : List ℕ) → fed step st room left ps ≡ runOf step st 0 (left ++ flatten ps) room
-  unfolding fed flatten
-  pieces [] st room left = ap (λ (s : List ℕ). runOf step st 0 s room) (sym (append-nil left))
-  pieces (p ∷ ps) st room left =
-      let r = runOf step st 0 (left ++ p) room in
-      ap (after (r .read) (r .bytes)) (pieces ps (r .state) (room - length (r .bytes)) (drop (r .read) (left ++ p)))
-      ∙ sym (resume (left ++ p) (flatten ps) st room)
-      ∙ ap (λ (s : List ℕ). runOf step st 0 s room) (append-assoc left p (flatten ps))
 
 -- a sequence, and what it gives
 pub record InputOutput : Type 0 where

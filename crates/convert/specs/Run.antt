@@ -52,8 +52,11 @@ abbrev pub convertedOf : Run → Converted
 convertedOf r = record { end = r .end; read = r .read; written = length (r .bytes) }
 
 -- the output slice: bytes past the written count keep their values
+abbrev pub putBytes : List ℕ → List ℕ → List ℕ
+putBytes bs old = bs ++ drop (length bs) old
+
 abbrev pub putOut : Run → List ℕ → List ℕ
-putOut r old = r .bytes ++ drop (length (r .bytes)) old
+putOut r old = putBytes (r .bytes) old
 
 -- document 01's numbers
 abbrev pub endNumber : RunEnd → ℕ

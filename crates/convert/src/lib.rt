@@ -1,5 +1,6 @@
 // The two conversions: from a table's bytes to Unicode, in UTF-8 or UTF-32, and back.
 mod hints;
+pub mod pieces;
 
 use table::lookup::Found;
 use table::lookup::Use;
@@ -169,7 +170,7 @@ fn on_top(x: u8) -> u32
 }
 
 // The first n bytes as the bits of a code, the first byte highest.
-fn pack(s: &[u8], n: usize) -> u32
+pub(crate) fn pack(s: &[u8], n: usize) -> u32
     requires { ⌜ n ≤ length (now s) ⌝ }
     ensures { λ r. ⌜ r ≡ packed (take n (now (s .entry))) ⌝ }
 {
@@ -333,7 +334,7 @@ fn from_step(
 }
 
 // Writes the n highest bytes of a code's bits into `out` from `at` on.
-fn put_bytes(bits: u32, n: usize, out: &mut [u8], at: usize)
+pub(crate) fn put_bytes(bits: u32, n: usize, out: &mut [u8], at: usize)
     requires { ⌜ at + n ≤ length (now out) ⌝ }
     ensures { λ _. ⌜ now (out .exit) ≡ sets (now (out .entry)) at (unpacked n bits) ⌝ }
 {
@@ -439,7 +440,7 @@ fn to_run(
 }
 
 // The same, with hints if the input is long enough to repay filling them in.
-fn to_hinted(
+pub(crate) fn to_hinted(
     rec: Record,
     states: &[u16],
     codes: &[u32],
@@ -602,7 +603,7 @@ fn mark_len(scheme: Scheme) -> usize
 }
 
 // Writes that mark to the front of `out` if it fits, and answers whether it did.
-fn put_mark(scheme: Scheme, out: &mut [u8]) -> bool
+pub(crate) fn put_mark(scheme: Scheme, out: &mut [u8]) -> bool
     ensures { λ r. ⌜ (let old = now (out .entry) in
         let mark = markOf scheme in
         (r ≡ fits old 0 mark)
@@ -678,7 +679,7 @@ fn front_of(scheme: Scheme, input: &[u8]) -> Front
 }
 
 // The conversion of a scheme to a valid table's bytes: plain UTF-32 may have a mark first.
-fn from_scheme(
+pub(crate) fn from_scheme(
     rec: Record,
     states: &[u16],
     codes: &[u32],

@@ -3,6 +3,8 @@ pub mod LoadCalls
 pub mod Refusals
 pub mod ConversionCalls
 pub mod IllegalCalls
+pub mod PieceFunctionCalls
+pub mod StandingCalls
 pub mod AuditCalls
 pub mod FrameCalls
 pub mod PageCalls

@@ -22,12 +22,14 @@ use Rattle.audit.proofs.Starred.{starred}
 use Rattle.frames.proofs.OutputCases.{k-whole, no-table}
 use Rattle.promises.specs.Calls.{LoadCall, AcceptedAs, leftAfter, ValidCall, recordTested, slicesTested}
 use Rattle.promises.specs.Words.{Words}
-use Rattle.promises.specs.Promises.{Demand1, Demand2, Demand3, IllegalSequences, Promises}
+use Rattle.promises.specs.Promises.{Demand1, Demand2, Demand3, IllegalSequences, InBursts, Promises}
 use Rattle.promises.proofs.Functions.{ask-nothing, meet-theirs}
 use Rattle.promises.proofs.LoadCalls as load
 use Rattle.promises.proofs.Refusals as refusals
 use Rattle.promises.proofs.ConversionCalls as conversions
 use Rattle.promises.proofs.IllegalCalls as illegal
+use Rattle.promises.proofs.PieceFunctionCalls as pieces
+use Rattle.promises.proofs.StandingCalls as standing
 use Rattle.promises.proofs.AuditCalls as audits
 use Rattle.promises.proofs.ProgramCalls as program
 
@@ -70,6 +72,10 @@ demand1 =
       from-answers = conversions.from-answers;
       to-refuses = conversions.to-refuses;
       from-refuses = conversions.from-refuses;
+      piece-answers = pieces.piece-answers;
+      close-answers = pieces.close-answers;
+      piece-refuses = pieces.piece-refuses;
+      close-refuses = pieces.close-refuses;
       audit-answers = audits.audit-answers;
       audit-refuses = audits.audit-refuses;
       code-found = λ c. c .post;
@@ -135,6 +141,21 @@ illegal-sequences =
       from-parts = λ e. runs.from-parts (sideOf e) (lawful e);
     }
 
+in-bursts : InBursts
+in-bursts =
+    record {
+      all-pieces = pieces.all-pieces;
+      piece-final = pieces.piece-final;
+      close-final = pieces.close-final;
+      piece-stands = pieces.piece-stands;
+      close-stands = pieces.close-stands;
+      stands-on = standing.stands-on;
+      close-short = pieces.close-short;
+      close-afresh = pieces.close-afresh;
+      bad-kept = pieces.bad-kept;
+      bad-kept-close = pieces.bad-kept-close;
+    }
+
 pub promises : Promises
 promises =
     record {
@@ -142,6 +163,7 @@ promises =
       demand2 = demand2;
       demand3 = demand3;
       illegal-sequences = illegal-sequences;
+      in-bursts = in-bursts;
       starred = starred;
       program = record { whole-output = program.whole-output; no-table = no-table; k-output = k-whole };
     }

@@ -4,7 +4,7 @@
 use Prim.Native.Nat.{ℕ, _≤_}
 use mathlib.Core.Path.{_≡_}
 use mathlib.Core.Bool.{Bool}
-use mathlib.Core.List.{List}
+use mathlib.Core.List.{List, []}
 use lib.ListN.{length, take}
 use borrow.Fn.Kinds.{Out}
 use denote.Ref.{now}
@@ -17,6 +17,9 @@ use Rattle.table.specs.declared.load.Answer.the-variants.{Accepted}
 use Rattle.table.specs.declared.states.Code.{Code}
 use Rattle.table.specs.declared.valid.Record.{Record}
 use Rattle.convert.specs.declared.Settings.{Settings}
+use Rattle.convert.specs.declared.pieces.Way.{Way}
+use Rattle.convert.specs.declared.pieces.Kept.{Kept}
+use Rattle.convert.specs.declared.pieces.Pieced.{Pieced}
 use Rattle.table.proofs.load.load.Reads as load
 use Rattle.table.proofs.load.load.Kinds as of-load
 use Rattle.table.proofs.valid.memory_valid.Reads as memory-valid
@@ -28,6 +31,10 @@ use Rattle.table.proofs.lookup.find_point.Kinds as of-find-point
 use Rattle.convert.proofs.to_unicode.Reads as to-unicode
 use Rattle.convert.proofs.to_unicode.Kinds as of-to-unicode
 use Rattle.convert.proofs.from_unicode.Reads as from-unicode
+use Rattle.convert.proofs.pieces.convert_piece.Reads as convert-piece
+use Rattle.convert.proofs.pieces.convert_piece.Kinds as of-convert-piece
+use Rattle.convert.proofs.pieces.close.Reads as close
+use Rattle.convert.proofs.pieces.close.Kinds as of-close
 use Rattle.audit.proofs.audit.Reads as audit
 use Rattle.audit.proofs.audit.Kinds as of-audit
 use Rattle.promises.specs.Called.{Called}
@@ -117,6 +124,62 @@ module _ {Post : Out 6 of-to-unicode.ps of-to-unicode.r} where
   -- the bytes that it wrote
   abbrev pub writtenBy : ConversionCall Post → List ℕ
   writtenBy c = take (c .result .written) (outputAfter c)
+
+-- ## `convert_piece`, `close`: a conversion in pieces
+
+abbrev pub PieceFunctionCall : Type 1
+PieceFunctionCall = Called 6 of-convert-piece.ps of-convert-piece.r convert-piece.Post
+
+abbrev pub CloseFunctionCall : Type 1
+CloseFunctionCall = Called 5 of-close.ps of-close.r close.Post
+
+-- the parts of either: what it got, and the output slice when it was called; what it handed back, and the output slice
+-- when it returned. A close has no piece
+pub record PieceParts : Type 0 where
+  pub way : Way
+  pub table : Record
+  pub memory : Slices
+  pub came : Kept
+  pub piece : List ℕ
+  pub lent : List ℕ
+  pub settings : Settings
+  pub scheme : Scheme
+  pub result : Pieced
+  pub after : List ℕ
+
+abbrev pub pieceParts : PieceFunctionCall → PieceParts
+pieceParts c =
+    record {
+      way = c .args .0;
+      table = c .args .1 .0;
+      memory =
+          slices (now (c .args .1 .1 .0)) (now (c .args .1 .1 .1 .0)) (now (c .args .1 .1 .1 .1 .0))
+          (now (c .args .1 .1 .1 .1 .1 .0));
+      came = c .args .1 .1 .1 .1 .1 .1 .0;
+      piece = now (c .args .1 .1 .1 .1 .1 .1 .1 .0);
+      lent = now (c .args .1 .1 .1 .1 .1 .1 .1 .1 .0);
+      settings = c .args .1 .1 .1 .1 .1 .1 .1 .1 .1 .0;
+      scheme = c .args .1 .1 .1 .1 .1 .1 .1 .1 .1 .1 .0;
+      result = c .result;
+      after = now (c .exit .1 .1 .1 .1 .1 .1 .1 .1 .0);
+    }
+
+abbrev pub closeParts : CloseFunctionCall → PieceParts
+closeParts c =
+    record {
+      way = c .args .0;
+      table = c .args .1 .0;
+      memory =
+          slices (now (c .args .1 .1 .0)) (now (c .args .1 .1 .1 .0)) (now (c .args .1 .1 .1 .1 .0))
+          (now (c .args .1 .1 .1 .1 .1 .0));
+      came = c .args .1 .1 .1 .1 .1 .1 .0;
+      piece = [];
+      lent = now (c .args .1 .1 .1 .1 .1 .1 .1 .0);
+      settings = c .args .1 .1 .1 .1 .1 .1 .1 .1 .0;
+      scheme = c .args .1 .1 .1 .1 .1 .1 .1 .1 .1 .0;
+      result = c .result;
+      after = now (c .exit .1 .1 .1 .1 .1 .1 .1 .0);
+    }
 
 -- ## `audit`: codes that do not round-trip
 

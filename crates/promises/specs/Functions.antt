@@ -21,6 +21,12 @@ use Rattle.convert.proofs.to_unicode.Statement as to-unicode-meets
 use Rattle.convert.proofs.from_unicode.Reads as from-unicode
 use Rattle.convert.proofs.from_unicode.Kinds as of-from-unicode
 use Rattle.convert.proofs.from_unicode.Statement as from-unicode-meets
+use Rattle.convert.proofs.pieces.convert_piece.Reads as convert-piece
+use Rattle.convert.proofs.pieces.convert_piece.Kinds as of-convert-piece
+use Rattle.convert.proofs.pieces.convert_piece.Statement as convert-piece-meets
+use Rattle.convert.proofs.pieces.close.Reads as close
+use Rattle.convert.proofs.pieces.close.Kinds as of-close
+use Rattle.convert.proofs.pieces.close.Statement as close-meets
 use Rattle.audit.proofs.audit.Reads as audit
 use Rattle.audit.proofs.audit.Kinds as of-audit
 use Rattle.audit.proofs.audit.Statement as audit-meets
@@ -57,6 +63,18 @@ use Rattle.cabi.proofs.oboepond_from_unicode.Statement as oboepond-from-unicode
 use Rattle.cabi.proofs.oboepond_from_utf8.Reads as oboepond-from-utf8
 use Rattle.cabi.proofs.oboepond_from_utf8.Kinds as of-oboepond-from-utf8
 use Rattle.cabi.proofs.oboepond_from_utf8.Statement as oboepond-from-utf8-meets
+use Rattle.cabi.proofs.pieces.oboepond_to_unicode_piece.Reads as oboepond-to-unicode-piece
+use Rattle.cabi.proofs.pieces.oboepond_to_unicode_piece.Kinds as of-oboepond-to-unicode-piece
+use Rattle.cabi.proofs.pieces.oboepond_to_unicode_piece.Statement as oboepond-to-unicode-piece-meets
+use Rattle.cabi.proofs.pieces.oboepond_from_unicode_piece.Reads as oboepond-from-unicode-piece
+use Rattle.cabi.proofs.pieces.oboepond_from_unicode_piece.Kinds as of-oboepond-from-unicode-piece
+use Rattle.cabi.proofs.pieces.oboepond_from_unicode_piece.Statement as oboepond-from-unicode-piece-meets
+use Rattle.cabi.proofs.pieces.oboepond_to_unicode_close.Reads as oboepond-to-unicode-close
+use Rattle.cabi.proofs.pieces.oboepond_to_unicode_close.Kinds as of-oboepond-to-unicode-close
+use Rattle.cabi.proofs.pieces.oboepond_to_unicode_close.Statement as oboepond-to-unicode-close-meets
+use Rattle.cabi.proofs.pieces.oboepond_from_unicode_close.Reads as oboepond-from-unicode-close
+use Rattle.cabi.proofs.pieces.oboepond_from_unicode_close.Kinds as of-oboepond-from-unicode-close
+use Rattle.cabi.proofs.pieces.oboepond_from_unicode_close.Statement as oboepond-from-unicode-close-meets
 use Rattle.cabi.proofs.oboepond_audit.Reads as oboepond-audit
 use Rattle.cabi.proofs.oboepond_audit.Kinds as of-oboepond-audit
 use Rattle.cabi.proofs.oboepond_audit.Statement as oboepond-audit-meets
@@ -69,6 +87,8 @@ pub record AskNothing : Type 1 where
   pub find-point-asks : (κs : Lfts 3) (args : Dens κs of-find-point.ps) → find-point.Pre κs args
   pub to-unicode-asks : (κs : Lfts 6) (args : Dens κs of-to-unicode.ps) → to-unicode.Pre κs args
   pub from-unicode-asks : (κs : Lfts 6) (args : Dens κs of-from-unicode.ps) → from-unicode.Pre κs args
+  pub convert-piece-asks : (κs : Lfts 6) (args : Dens κs of-convert-piece.ps) → convert-piece.Pre κs args
+  pub close-asks : (κs : Lfts 5) (args : Dens κs of-close.ps) → close.Pre κs args
   pub audit-asks : (κs : Lfts 5) (args : Dens κs of-audit.ps) → audit.Pre κs args
   pub report-table-asks : (κs : Lfts 1) (args : Dens κs of-report-table.ps) → report-table.Pre κs args
   pub report-frames-asks : (κs : Lfts 7) (args : Dens κs of-report-frames.ps) → report-frames.Pre κs args
@@ -83,6 +103,14 @@ pub record AskNothing : Type 1 where
   pub oboepond-from-unicode-asks : (κs : Lfts 8) (args : Dens κs of-oboepond-from-unicode.ps)
       → oboepond-from-unicode.Pre κs args
   pub oboepond-from-utf8-asks : (κs : Lfts 8) (args : Dens κs of-oboepond-from-utf8.ps) → oboepond-from-utf8.Pre κs args
+  pub oboepond-to-unicode-piece-asks : (κs : Lfts 9) (args : Dens κs of-oboepond-to-unicode-piece.ps)
+      → oboepond-to-unicode-piece.Pre κs args
+  pub oboepond-from-unicode-piece-asks : (κs : Lfts 9) (args : Dens κs of-oboepond-from-unicode-piece.ps)
+      → oboepond-from-unicode-piece.Pre κs args
+  pub oboepond-to-unicode-close-asks : (κs : Lfts 8) (args : Dens κs of-oboepond-to-unicode-close.ps)
+      → oboepond-to-unicode-close.Pre κs args
+  pub oboepond-from-unicode-close-asks : (κs : Lfts 8) (args : Dens κs of-oboepond-from-unicode-close.ps)
+      → oboepond-from-unicode-close.Pre κs args
   pub oboepond-audit-asks : (κs : Lfts 7) (args : Dens κs of-oboepond-audit.ps) → oboepond-audit.Pre κs args
 
 -- each meets its contract
@@ -93,6 +121,8 @@ pub record MeetTheirs (M : Type 1) : Type 2 where
   pub find-point : find-point-meets.statement M
   pub to-unicode : to-unicode-meets.statement M
   pub from-unicode : from-unicode-meets.statement M
+  pub convert-piece : convert-piece-meets.statement M
+  pub close : close-meets.statement M
   pub audit : audit-meets.statement M
   pub report-table : report-table-meets.statement M
   pub report-frames : report-frames-meets.statement M
@@ -105,4 +135,8 @@ pub record MeetTheirs (M : Type 1) : Type 2 where
   pub oboepond-to-utf8 : oboepond-to-utf8-meets.statement M
   pub oboepond-from-unicode : oboepond-from-unicode-meets.statement M
   pub oboepond-from-utf8 : oboepond-from-utf8-meets.statement M
+  pub oboepond-to-unicode-piece : oboepond-to-unicode-piece-meets.statement M
+  pub oboepond-from-unicode-piece : oboepond-from-unicode-piece-meets.statement M
+  pub oboepond-to-unicode-close : oboepond-to-unicode-close-meets.statement M
+  pub oboepond-from-unicode-close : oboepond-from-unicode-close-meets.statement M
   pub oboepond-audit : oboepond-audit-meets.statement M

@@ -15,6 +15,7 @@ use Rattle.unicode.specs.WellFormed.{StartsWith, Begins}
 use Rattle.unicode.specs.Utf32.{wordIn, encodeIn, decodeIn, markIn}
 use Rattle.unicode.specs.Scheme.{orderedBy, sideOf}
 use Rattle.unicode.specs.declared.utf8.Sequence.the-variants as sequence
+use Rattle.unicode.specs.declared.utf8.Stop.{Stop}
 use Rattle.unicode.specs.declared.utf8.Stop.the-variants as stopped
 use Rattle.unicode.specs.declared.utf32.ByteOrder.{ByteOrder}
 use Rattle.unicode.specs.declared.utf32.ByteOrder.the-variants.{Big}
@@ -42,8 +43,14 @@ use Rattle.convert.specs.Step.{code, writes, strict, withSkip, toStep, fromStep
 use Rattle.convert.specs.Convert.{markOf, toSide, fromSide, toRun, fromRun, toTested, fromTested}
 use Rattle.convert.specs.Claims.{WellFormedText, pointsIn, ReadsAs, ReadsAsFirst}
 use Rattle.convert.specs.Claims.{RoundTripCode, frameOf, RoundTrips, InParts}
-use Rattle.convert.specs.declared.RunEnd.the-variants.{AllRead, OutputFull, BadTable}
+use Rattle.convert.specs.Pieces.{pieceTested, closeTested}
+use Rattle.convert.specs.PieceClaims.{oneRun, freshKept, Closing, lastEnd, lastKept, InPieces}
+use Rattle.convert.specs.PieceClaims.{InTurn as PiecesInTurn}
+use Rattle.convert.specs.declared.RunEnd.the-variants.{AllRead, OutputFull, BadTable, Stopped}
 use Rattle.convert.specs.declared.Settings.{Settings}
+use Rattle.convert.specs.declared.pieces.Way.{Way}
+use Rattle.convert.specs.declared.pieces.Standing.the-variants as stands
+use Rattle.convert.specs.declared.pieces.PieceEnd.the-variants.{Ended, BadKept}
 use Rattle.audit.specs.Audit.{causeOf, completeCodes, entryNumber, auditTested, refused}
 use Rattle.audit.specs.Demand.{InTurn, Claims}
 use Rattle.audit.specs.Cases.{Starred}
@@ -57,8 +64,11 @@ use Rattle.promises.specs.Calls.{outputLent, outputAfter}
 use Rattle.promises.specs.Calls.{settingsOf, schemeOf, writtenBy, AuditFunctionCall, recordAudited, slicesAudited}
 use Rattle.promises.specs.Calls.{fallbackOf, positionOf}
 use Rattle.promises.specs.Calls.{allowanceOf, spaceLent, spaceAfterwards}
+use Rattle.promises.specs.Calls.{PieceFunctionCall, CloseFunctionCall, pieceParts, closeParts}
 use Rattle.promises.specs.Words.{RefusedFor, AllZeroed, SameBeyond, Words, AnswersBy, OnLoaded, AuditsBy}
 use Rattle.promises.specs.Words.{callOf, FindsCode, FindsPoint}
+use Rattle.promises.specs.Words.{AnswersPiece, DidNothing, memoryValid, keptFitting, pieceCallOf, closeCallOf}
+use Rattle.promises.specs.Words.{PieceOn}
 use Rattle.promises.specs.Program.{Begun, Course, written, Reads}
 
 -- DEMAND 1: any table text, any table memory, any bytes get an answer; what is handed back and left in lent memory is
@@ -107,6 +117,25 @@ pub record Demand1 : Type 2 where
       → AnswersBy (endedWith BadTable 0) c × (outputAfter c ≡ outputLent c)
   pub from-refuses : (c : FromCall) → valid limits (recordGiven c) (slicesGiven c) ≡ false
       → AnswersBy (endedWith BadTable 0) c × (outputAfter c ≡ outputLent c)
+  -- `convert_piece`, `close`: on any record, memory, kept state, bytes, output, scheme and settings
+  pub piece-answers : (c : PieceFunctionCall)
+      → let p = pieceParts c in
+      let room = length (p .lent) in
+      AnswersPiece
+      (pieceTested (p .way) (p .scheme) limits (p .table) (p .memory) (p .settings) (p .came) (p .piece) room) p
+  pub close-answers : (c : CloseFunctionCall)
+      → let p = closeParts c in
+      let room = length (p .lent) in
+      AnswersPiece (closeTested (p .way) (p .scheme) limits (p .table) (p .memory) (p .settings) (p .came) room) p
+  -- 60, then 42: nothing is read or written, the kept state is handed back as it came, the output is as it was
+  pub piece-refuses : (c : PieceFunctionCall)
+      → let p = pieceParts c in
+      (memoryValid p ≡ false → DidNothing (Ended BadTable) p)
+      × (memoryValid p ≡ true → keptFitting p ≡ false → DidNothing BadKept p)
+  pub close-refuses : (c : CloseFunctionCall)
+      → let p = closeParts c in
+      (memoryValid p ≡ false → DidNothing (Ended BadTable) p)
+      × (memoryValid p ≡ true → keptFitting p ≡ false → DidNothing BadKept p)
   -- `audit`: on any record, memory, position, allowance and space; 60 and 40 leave the space untouched
   pub audit-answers : (c : AuditFunctionCall)
       → let space = length (spaceLent c) in
@@ -238,6 +267,64 @@ pub record IllegalSequences : Type 1 where
       let r = fromSide u t (withSkip true settings) s room in
       (r .end ≡ OutputFull → ⊥) → InParts (fromStep u t (withSkip false settings)) (t .subchar) s r
 
+-- IN BURSTS (document 02, request 4): a conversion in pieces, over any list of calls
+pub record InBursts : Type 1 where
+  -- given a load that accepted its text, a frame, and any list of calls on what the load left, one way, in one scheme
+  -- and with one setting, the first afresh, each later one with the kept state that the one before handed back, each on
+  -- any beginning of what is unread, with any space; and then closes, each but the last answered 50: every clause of
+  -- `InPieces` holds. The conversion in one piece, which they are held to, has any space that is enough for it
+  pub all-pieces : (l : LoadCall) (t : Table) → AcceptedAs l t → (way : Way) (e : Scheme) (settings : Settings)
+      → (frame : List ℕ) → AllByte frame → (room : ℕ)
+      → let whole = oneRun way e t settings frame room in
+      (whole .end ≡ OutputFull → ⊥) → (cs : List PieceFunctionCall) (ds : List CloseFunctionCall)
+      → All (PieceOn l way e settings) (map pieceParts cs) → All (PieceOn l way e settings) (map closeParts ds)
+      → PiecesInTurn frame freshKept (map pieceCallOf cs)
+      → Closing (lastKept freshKept (map pieceCallOf cs)) (map closeCallOf ds)
+      → InPieces way e whole frame (map pieceCallOf cs) (map closeCallOf ds)
+  -- a call answered 51, 52 or 53 keeps that answer
+  pub piece-final : (c : PieceFunctionCall) (w : Stop) → c .result .end ≡ Ended (Stopped w)
+      → c .result .kept .standing ≡ stands.Stopped w
+  pub close-final : (c : CloseFunctionCall) (w : Stop) → c .result .end ≡ Ended (Stopped w)
+      → c .result .kept .standing ≡ stands.Stopped w
+  -- and an answer that is kept is given again, nothing being read, written or changed
+  pub piece-stands : (c : PieceFunctionCall) (w : Stop)
+      → let p = pieceParts c in
+      p .came .standing ≡ stands.Stopped w → memoryValid p ≡ true → keptFitting p ≡ true
+      → DidNothing (Ended (Stopped w)) p
+  pub close-stands : (c : CloseFunctionCall) (w : Stop)
+      → let p = closeParts c in
+      p .came .standing ≡ stands.Stopped w → memoryValid p ≡ true → keptFitting p ≡ true
+      → DidNothing (Ended (Stopped w)) p
+  -- so where the last of such calls and closes is answered 51, 52 or 53, every call with what was then kept, whatever
+  -- its piece and space, and every close gives that answer and does nothing
+  pub stands-on : (l : LoadCall) (t : Table) → AcceptedAs l t → (way : Way) (e : Scheme) (settings : Settings)
+      → (frame : List ℕ) → AllByte frame → (room : ℕ)
+      → (oneRun way e t settings frame room .end ≡ OutputFull → ⊥)
+      → (cs : List PieceFunctionCall) (ds : List CloseFunctionCall)
+      → All (PieceOn l way e settings) (map pieceParts cs) → All (PieceOn l way e settings) (map closeParts ds)
+      → PiecesInTurn frame freshKept (map pieceCallOf cs)
+      → Closing (lastKept freshKept (map pieceCallOf cs)) (map closeCallOf ds)
+      → let kept = lastKept (lastKept freshKept (map pieceCallOf cs)) (map closeCallOf ds) in
+      (w : Stop) → lastEnd (lastEnd (Ended AllRead) (map pieceCallOf cs)) (map closeCallOf ds) ≡ Ended (Stopped w)
+      → ((c : PieceFunctionCall) → PieceOn l way e settings (pieceParts c) → pieceParts c .came ≡ kept
+      → DidNothing (Ended (Stopped w)) (pieceParts c))
+      × ((d : CloseFunctionCall) → PieceOn l way e settings (closeParts d) → closeParts d .came ≡ kept
+      → DidNothing (Ended (Stopped w)) (closeParts d))
+  -- a close is 51 where bytes are kept and no answer stands
+  pub close-short : (c : CloseFunctionCall)
+      → let p = closeParts c in
+      memoryValid p ≡ true → keptFitting p ≡ true → p .came .standing ≡ stands.Nothing → 0 < p .came .bytes .len
+      → (p .result .end ≡ Ended (Stopped stopped.CutShort)) × (p .after ≡ p .lent)
+  -- a close answered 0 makes a fresh start
+  pub close-afresh : (c : CloseFunctionCall) → c .result .end ≡ Ended AllRead → c .result .kept ≡ freshKept
+  -- on memory that is valid 42 is given exactly where what came is no kept state
+  pub bad-kept : (c : PieceFunctionCall)
+      → let p = pieceParts c in
+      memoryValid p ≡ true → (p .result .end ≡ BadKept) ↔ (keptFitting p ≡ false)
+  pub bad-kept-close : (c : CloseFunctionCall)
+      → let p = closeParts c in
+      memoryValid p ≡ true → (p .result .end ≡ BadKept) ↔ (keptFitting p ≡ false)
+
 -- DEMAND 3: the audit, over any list of calls
 pub record Demand3 : Type 1 where
   -- given a load that accepted its text, and any list of audit calls (the empty one too) on what it left, under one
@@ -283,6 +370,7 @@ pub record Promises : Type 2 where
   pub demand2 : Demand2
   pub demand3 : Demand3
   pub illegal-sequences : IllegalSequences
+  pub in-bursts : InBursts
   -- the starred cases 1 to 8, over the terms of the functions' contracts on what the load of K's text left
   pub starred : Starred
   pub program : TheProgram

@@ -3,22 +3,32 @@
 use Prim.Native.Nat.{ℕ, _<_}
 use mathlib.Core.Path.{_≡_}
 use mathlib.Core.Logic.{_⊎_}
+use mathlib.Core.Bool.{Bool}
 use mathlib.Core.List.{List, _++_}
 use lib.ListN.{length, take, drop, replicate}
 use denote.Ref.{now}
 use borrow.Fn.Kinds.{Out}
 use Rattle.lists.specs.Order.{All}
 use Rattle.lists.specs.Paging.{Page}
+use Rattle.unicode.specs.declared.scheme.Scheme.{Scheme}
 use Rattle.table.specs.Limits.{limits, needed}
 use Rattle.table.specs.Text.{linesOf}
 use Rattle.table.specs.FirstLine.{FirstHolds, NeverEnds}
 use Rattle.table.specs.Lookup.{CodeFound, PointFound}
 use Rattle.table.specs.Slices.{Slices, Lent}
+use Rattle.table.specs.Meaning.{stepsOf}
+use Rattle.table.specs.Memory.{tableIn}
+use Rattle.table.specs.Valid.{valid}
 use Rattle.table.specs.declared.states.Code.{Code}
 use Rattle.table.specs.declared.valid.Record.{Record}
 use Rattle.table.specs.declared.load.Refusal.{Refusal}
 use Rattle.table.specs.declared.load.Refusal.the-variants as refusal
-use Rattle.convert.specs.Run.{Run, convertedOf, putOut, endNumber, runNumber, endLength, runLength}
+use Rattle.convert.specs.Run.{Run, convertedOf, putBytes, putOut, endNumber, runNumber, endLength, runLength}
+use Rattle.convert.specs.Pieces.{keptFits, PieceAnswer, answeredOf, pieceNumber, pieceLength}
+use Rattle.convert.specs.PieceClaims.{PieceCall}
+use Rattle.convert.specs.declared.Settings.{Settings}
+use Rattle.convert.specs.declared.pieces.Way.{Way}
+use Rattle.convert.specs.declared.pieces.PieceEnd.{PieceEnd}
 use Rattle.convert.proofs.to_unicode.Kinds as of-to-unicode
 use Rattle.audit.specs.Audit.{Answer, endingNumber, auditNumber, auditedOf, spaceAfter}
 use Rattle.audit.specs.Demand.{AuditCall}
@@ -26,6 +36,7 @@ use Rattle.audit.specs.declared.Audited.{Audited}
 use Rattle.promises.specs.Calls.{CodeCall, PointCall}
 use Rattle.promises.specs.Calls.{LoadCall, textOf, lentTo, leftAfter, MayLoad, ConversionCall, recordGiven}
 use Rattle.promises.specs.Calls.{slicesGiven, outputLent, outputAfter}
+use Rattle.promises.specs.Calls.{PieceFunctionCall, CloseFunctionCall, PieceParts, pieceParts, closeParts}
 use Rattle.promises.specs.Calls.{AuditFunctionCall, recordAudited, slicesAudited, fallbackOf, positionOf}
 use Rattle.promises.specs.Calls.{allowanceOf, spaceLent, spaceAfterwards}
 
@@ -92,6 +103,54 @@ module _ {Post : Out 6 of-to-unicode.ps of-to-unicode.r} where
   -- a call on the record and the slices that a load handed back and left
   abbrev pub OnLoaded : LoadCall → ConversionCall Post → Type 0
   OnLoaded l c = (recordGiven c ≡ l .result .table) × (slicesGiven c ≡ leftAfter l)
+
+-- ## A conversion in pieces
+
+-- a call on a piece, or a close, answers by this definition
+pub record AnswersPiece (a : PieceAnswer) (p : PieceParts) : Type 0 where
+  pub result : p .result ≡ answeredOf a
+  pub output : p .after ≡ putBytes (a .bytes) (p .lent)
+  pub number : pieceNumber (p .result .end) ≡ pieceNumber (a .end)
+  pub length : pieceLength (p .result .end) ≡ pieceLength (a .end)
+
+-- it ended so, and did nothing: nothing read or written, the kept state handed back as it came, the output as it was
+pub record DidNothing (h : PieceEnd) (p : PieceParts) : Type 0 where
+  pub result : p .result ≡ record { end = h; read = 0; written = 0; kept = p .came }
+  pub output : p .after ≡ p .lent
+
+-- the tests behind 60 and 42, of what it got
+abbrev pub memoryValid : PieceParts → Bool
+memoryValid p = valid limits (p .table) (p .memory)
+
+abbrev pub keptFitting : PieceParts → Bool
+keptFitting p = keptFits (p .way) (p .scheme) (stepsOf (tableIn (p .table) (p .memory))) (p .settings) (p .came)
+
+-- what it got, handed back and left in its output, as `InPieces` speaks of it
+abbrev pub callWith : PieceParts → PieceCall
+callWith p =
+    record {
+      came = p .came;
+      piece = p .piece;
+      room = length (p .lent);
+      end = p .result .end;
+      read = p .result .read;
+      output = take (p .result .written) (p .after);
+      kept = p .result .kept;
+    }
+
+abbrev pub pieceCallOf : PieceFunctionCall → PieceCall
+pieceCallOf c = callWith (pieceParts c)
+
+abbrev pub closeCallOf : CloseFunctionCall → PieceCall
+closeCallOf c = callWith (closeParts c)
+
+-- a call this way, in this scheme and with these settings, on the record and the slices that a load left
+pub record PieceOn (l : LoadCall) (way : Way) (e : Scheme) (settings : Settings) (p : PieceParts) : Type 0 where
+  pub on-table : p .table ≡ l .result .table
+  pub on-memory : p .memory ≡ leftAfter l
+  pub one-way : p .way ≡ way
+  pub one-scheme : p .scheme ≡ e
+  pub one-setting : p .settings ≡ settings
 
 -- ## The audit
 

@@ -7,6 +7,7 @@ use lib.ListN.{length, take}
 use Rattle.unicode.specs.Utf8.{Scalar}
 use Rattle.unicode.specs.Scheme.{Side}
 use Rattle.unicode.specs.declared.utf8.Sequence.the-variants as sequence
+use Rattle.unicode.specs.declared.utf8.Stop.{Stop}
 use Rattle.unicode.specs.declared.utf8.Stop.the-variants as stopped
 use Rattle.table.specs.Codes.{unpacked}
 use Rattle.convert.specs.Run.{Gives, give, stop, SequenceStep}
@@ -26,6 +27,17 @@ pub record Settled (step : SequenceStep) : Type 0 where
   pub illegal-within : (st : ℕ) (s : List ℕ) (n : ℕ) → step st s ≡ stop (stopped.Illegal n) → n ≤ length s
   pub illegal-stays : (st : ℕ) (s t : List ℕ) (n : ℕ) → step st s ≡ stop (stopped.Illegal n)
       → step st (s ++ t) ≡ stop (stopped.Illegal n)
+
+-- what a conversion in pieces asks of a step: a stop stays under more input, unless it is 'cut short', and then there
+-- are at most three bytes
+pub record Pieceable (step : SequenceStep) : Type 0 where
+  pub stays : (st : ℕ) (s t : List ℕ) (w : Stop) → (w ≡ stopped.CutShort → ⊥) → step st s ≡ stop w
+      → step st (s ++ t) ≡ stop w
+  pub short : (st : ℕ) (s : List ℕ) → step st s ≡ stop stopped.CutShort → length s ≤ 3
+
+-- a sequence gives at most so many bytes
+abbrev pub AtMost : ℕ → SequenceStep → Type 0
+AtMost cap step = (st : ℕ) (s bs : List ℕ) (n next : ℕ) → step st s ≡ give bs n next → length bs ≤ cap
 
 -- what a sequence gives it gives alone, with nothing behind it
 abbrev pub GivesAlone : SequenceStep → Type 0

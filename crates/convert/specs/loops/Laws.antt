@@ -1,6 +1,6 @@
--- What the laws of conversions speak of on the way to the promises: an output that did not fill up, an input fed in
--- pieces, code points spelt out, the round trip of a code by runs and by the terms of the contracts, a conversion that
--- skips, split at an illegal sequence.
+-- What the laws of conversions speak of on the way to the promises: an output that did not fill up, code points spelt
+-- out, the round trip of a code by runs and by the terms of the contracts, a conversion that skips, split at an illegal
+-- sequence.
 use Prim.Native.Nat.{ℕ, _+_, _-_}
 use mathlib.Core.Path.{_≡_}
 use mathlib.Core.List.{List, [], _∷_, _++_}
@@ -25,14 +25,6 @@ use Rattle.convert.specs.Claims.{RoundTripCode}
 -- the output did not fill up
 abbrev pub NotFull : Run → Type 0
 NotFull r = r .end ≡ OutputFull → ⊥
-
--- an input fed in pieces: each call gets what the last one left unread before its own piece, the state and the space
--- left
-unfoldable pub fed : SequenceStep → ℕ → ℕ → List ℕ → List (List ℕ) → Run
-fed step st room left [] = runOf step st 0 left room
-fed step st room left (p ∷ ps) =
-    let r = runOf step st 0 (left ++ p) room in
-    after (r .read) (r .bytes) (fed step (r .state) (room - length (r .bytes)) (drop (r .read) (left ++ p)) ps)
 
 -- code points, spelt out in a side of Unicode
 unfoldable pub spell : Side → List ℕ → List ℕ
