@@ -2,7 +2,7 @@
 -- the conversion in one piece.
 -- Contents: one call; calls one after the other (`Doing`, `Done`); as the whole (`Told`).
 use mathlib.Core.Path.{_≡_, refl, sym, ap, subst, _∙_}
-use Prim.Native.Nat.{ℕ, _+_, _-_, _≤_, _<_}
+use Prim.Native.Nat.{ℕ, zero, suc, _+_, _-_, _≤_, _<_}
 use mathlib.Core.List.{List, [], _∷_, _++_, append-nil, append-assoc}
 use mathlib.Core.Logic.{_⊎_, inl, inr}
 use mathlib.Core.Option.{Option, none, some}
@@ -22,7 +22,7 @@ use Rattle.unicode.specs.declared.scheme.Scheme.{Scheme}
 use Rattle.table.specs.Codes.{AllByte}
 use Rattle.table.specs.Meaning.{Table}
 use Rattle.convert.specs.Run.{SequenceStep, Run, runOf, after, endedWith}
-use Rattle.convert.specs.Pieces.{Carry, fresh, PieceRun, idle, pieceOn, unless, stepIn, dueIn, dueState, pastDue, led, pieceBehind, pieceIn, closeIn}
+use Rattle.convert.specs.Pieces.{Carry, fresh, PieceRun, idle, pieceOn, unless, stateAt, placeAt, stepIn, dueIn, dueState, pastDue, led, pieceBehind, pieceIn, closeIn}
 use Rattle.convert.specs.Pieces.{keptAs, PieceAnswer, answeredPiece}
 use Rattle.convert.specs.PieceClaims.{PieceCall, InTurn, readBy, writtenBy, lastEnd, lastKept, Unrefused, Ample}
 use Rattle.convert.specs.loops.Inner.{Sound, Pieceable, AtMost}
@@ -57,9 +57,16 @@ pub record Alike (whole : Run) (before : List ℕ) (r : Run) : Type 0 where
   pub read : whole .read ≡ r .read
   pub bytes : whole .bytes ≡ before ++ r .bytes
 
-ample : (way : Way) (e : Scheme) (c : PieceCall) → Ample way e c → length (dueIn way e 0) + 4 ≤ c .room
-ample ToUnicode e c h = h
-ample FromUnicode e c h = h
+-- what is due, by the kept state
+due-placed : (way : Way) (e : Scheme) (st : ℕ) → dueIn way e (stateAt (placeAt st)) ≡ dueIn way e st
+due-placed FromUnicode e st = refl
+due-placed ToUnicode e zero = refl
+due-placed ToUnicode e (suc zero) = refl
+due-placed ToUnicode e (suc (suc st)) = refl
+
+ample : (way : Way) (e : Scheme) (c : PieceCall) (k : Carry) → c .came ≡ keptAs k → Ample way e c → length (dueIn way e (k .state)) + 4 ≤ c .room
+ample way e c k z h =
+    subst (λ (s : List ℕ). length s + 4 ≤ c .room) (ap (λ (x : Kept). dueIn way e (stateAt (x .mark))) z ∙ due-placed way e (k .state)) h
 
 -- ## One call
 
@@ -112,22 +119,22 @@ module _ (way : Way) (e : Scheme) (t : Table) (settings : Settings) where
       (λ q. f (leb-true _ _ q)) (λ q. g (leb-false _ _ q))
 
   -- what holds of each call: where it began, its piece and space, what it did
-  pub record OfCall (k : Carry) (piece : List ℕ) (room : ℕ) (a : PieceRun) : Type 0 where
+  pub record OfCall (need : ℕ) (k : Carry) (piece : List ℕ) (room : ℕ) (a : PieceRun) : Type 0 where
     pub valid : a .end ≡ BadTable → ⊥
     pub few : length (a .carry .bytes) ≤ 3
     pub all : a .end ≡ AllRead → a .read ≡ length piece
-    pub moves : length mark + 4 ≤ room → a .end ≡ OutputFull → (0 < a .read) ⊎ (length (a .carry .bytes) < length (k .bytes))
+    pub moves : need ≤ room → a .end ≡ OutputFull → (0 < a .read) ⊎ (length (a .carry .bytes) < length (k .bytes))
 
   module _ (most : AtMost 4 step) where
-    ofCall-on : (k : Carry) (piece : List ℕ) (room left : ℕ) → (length mark + 4 ≤ room → 4 ≤ left) → length (pieceOn step k piece left .carry .bytes) ≤ 3
-        → (o : Option Stop) → length (k .bytes) ≤ 3 → OfCall k piece room (unless o k (pieceOn step k piece left))
-    ofCall-on k piece room left l few none f = record {
+    ofCall-on : (need : ℕ) (k : Carry) (piece : List ℕ) (room left : ℕ) → (need ≤ room → 4 ≤ left) → length (pieceOn step k piece left .carry .bytes) ≤ 3
+        → (o : Option Stop) → length (k .bytes) ≤ 3 → OfCall need k piece room (unless o k (pieceOn step k piece left))
+    ofCall-on need k piece room left l few none f = record {
       valid = pieceOn-valid step so k piece left;
       few = few;
       all = pieceOn-all step so k piece left;
       moves = λ y. moves-on step so k piece left 4 most (l y);
     }
-    ofCall-on k piece room left l few (some w) f = record {
+    ofCall-on need k piece room left l few (some w) f = record {
       valid = λ z. let z : _≡_ {A = ℕ} 0 1 = cc in omega arith;
       few = f;
       all = λ z. absurd (let z : _≡_ {A = ℕ} 0 1 = cc in omega arith);
@@ -153,7 +160,7 @@ module _ (way : Way) (e : Scheme) (t : Table) (settings : Settings) where
       -- one more
       pub record OneMore (d : PieceRun) (piece : List ℕ) (room : ℕ) (a : PieceRun) : Type 0 where
         pub doing : Doing (onward d a)
-        pub of : OfCall (d .carry) piece room a
+        pub of : OfCall (length (dueIn way e (d .carry .state)) + 4) (d .carry) piece room a
 
       fit-first : Fit step first frame
       fit-first = record { few = omega arith; stands = λ w z. absurd (let z : _≡_ {A = ℕ} 0 1 = cc in omega arith); waits = λ z y. absurd (omega arith) }
@@ -183,7 +190,7 @@ module _ (way : Way) (e : Scheme) (t : Table) (settings : Settings) where
                 held = Held-piece way e t settings first piece (room - length mark) Held-first (byte-piece 0 u) _ (v .fit);
               });
               of =
-                  let c = ofCall-on first piece room (room - length mark) (λ y. omega arith) (v .fit .few) none (omega arith) in
+                  let c = ofCall-on (length mark + 4) first piece room (room - length mark) (λ y. omega arith) (v .fit .few) none (omega arith) in
                   record { valid = c .valid; few = c .few; all = c .all; moves = c .moves };
             })
             (λ l. record {
@@ -229,7 +236,7 @@ module _ (way : Way) (e : Scheme) (t : Table) (settings : Settings) where
                       (moves-unless step so pe k piece rest room _ goes-fit goes-enough o z));
                   held = goes-held o;
                 });
-                of = ofCall-on k piece room room (λ y. omega arith) (goes-moved .fit .few) o (h .few);
+                of = ofCall-on (length (dueIn way e (k .state)) + 4) k piece room room (λ y. omega arith) (goes-moved .fit .few) o (h .few);
               }
 
           more-goes : OneMore (led mark sub) piece room (pieceIn way e t settings k piece room)
@@ -270,7 +277,7 @@ module _ (way : Way) (e : Scheme) (t : Table) (settings : Settings) where
           pub each : All Each cs
 
         module _ (c : PieceCall) (d : PieceRun) (a : PieceRun) (is : answerIn c ≡ answeredPiece a) (came : c .came ≡ keptAs (d .carry))
-            (of : OfCall (d .carry) (c .piece) (c .room) a) where
+            (of : OfCall (length (dueIn way e (d .carry .state)) + 4) (d .carry) (c .piece) (c .room) a) where
           each-one : Each c
           each-one =
               let end : c .end ≡ Ended (a .end) = ap (λ (x : PieceAnswer). x .end) is in
@@ -281,7 +288,7 @@ module _ (way : Way) (e : Scheme) (t : Table) (settings : Settings) where
                 unrefused = (a .end, end, of .valid);
                 few = rw len (of .few);
                 all = λ z. let y : a .end ≡ AllRead = cc in read ∙ of .all y;
-                moves = λ l z. let y : a .end ≡ OutputFull = cc in rw (read, len, old) (of .moves (ample way e c l) y);
+                moves = λ l z. let y : a .end ≡ OutputFull = cc in rw (read, len, old) (of .moves (ample way e c (d .carry) came l) y);
               }
 
         pub all-done : (cs : List PieceCall) (d : PieceRun) → Doing d → InTurn (drop (d .read) frame) (keptAs (d .carry)) cs

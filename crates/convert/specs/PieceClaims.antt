@@ -10,7 +10,8 @@ use Rattle.unicode.specs.declared.utf8.Stop.{Stop}
 use Rattle.unicode.specs.declared.scheme.Scheme.{Scheme}
 use Rattle.table.specs.Meaning.{Table}
 use Rattle.convert.specs.Run.{Run}
-use Rattle.convert.specs.Convert.{markOf, toRun, fromRun}
+use Rattle.convert.specs.Convert.{toRun, fromRun}
+use Rattle.convert.specs.Pieces.{stateAt, dueIn}
 use Rattle.convert.specs.declared.RunEnd.{RunEnd}
 use Rattle.convert.specs.declared.RunEnd.the-variants.{AllRead, OutputFull, BadTable, Stopped}
 use Rattle.convert.specs.declared.Settings.{Settings}
@@ -81,10 +82,9 @@ pub record SameAsWhole (whole : Run) (cs : List PieceCall) : Type 0 where
 abbrev pub Unrefused : PieceCall → Type 0
 Unrefused c = (h : RunEnd) × (c .end ≡ Ended h) × (h ≡ BadTable → ⊥)
 
--- space for the mark and for the longest output of one sequence
+-- space for the longest output of one sequence, four bytes, behind a mark that is still to be written
 abbrev pub Ample : Way → Scheme → PieceCall → Type 0
-Ample ToUnicode e c = length (markOf e) + 4 ≤ c .room
-Ample FromUnicode e c = 4 ≤ c .room
+Ample way e c = length (dueIn way e (stateAt (c .came .mark))) + 4 ≤ c .room
 
 -- THE CLAIM: calls on a frame, and closes behind them, where `whole` is the conversion in one piece with space enough
 pub record InPieces (way : Way) (e : Scheme) (whole : Run) (frame : List ℕ) (cs closes : List PieceCall) : Type 0 where
