@@ -77,6 +77,8 @@ extern "C" {
 #define OBOEPOND_POINT_TAKEN 25     /* an earlier |0, |1 or |2 line has this code point */
 #define OBOEPOND_TOO_MANY 26        /* the 2,049th mapping */
 #define OBOEPOND_NO_END 27          /* END CHARMAP never came; the line is the count of lines plus 1 */
+#define OBOEPOND_NOT_READ_BACK 28   /* at END CHARMAP: some |1 line has bytes that no |0 or |3 line has. The panel
+                                       would show a character that nobody can read back */
 
 /* An audit call is refused. */
 #define OBOEPOND_BAD_POSITION 40 /* the position is neither the beginning nor a complete code */
@@ -113,7 +115,7 @@ extern "C" {
 #define OBOEPOND_NO_SCHEME 71 /* the number given for the scheme is none of those above */
 
 /*
- * Loads a table's text. Answers 0, or 1 to 27 as above; 70 where result has fewer than 8 numbers.
+ * Loads a table's text. Answers 0, or 1 to 28 as above; 70 where result has fewer than 8 numbers.
  * result: the line (0 where accepted, and with 1 and 2), then the seven numbers of the record.
  * Accepted: the slices hold the table, with zeros in the needed places that it does not use.
  * Refused: the record is zeros; with 1 and 2 the slices keep their values, with any other number all

@@ -162,8 +162,8 @@ impl Plain {
         Search::ALL.map(|search| Plain::load(text, search).expect("plain load"))
     }
 
-    /// Reads a .ucm text, refuses what it does not understand and lines that
-    /// meet, sorts for search.
+    /// Reads a .ucm text, refuses what it does not understand, lines that meet
+    /// and fallbacks to a code that no line reads, sorts for search.
     pub fn load(text: &[u8], search: Search) -> Option<Plain> {
         let text = std::str::from_utf8(text).ok()?;
         let mut t = Plain {
@@ -217,7 +217,8 @@ impl Plain {
         t.read.sort_unstable();
         t.write.sort_unstable();
         let meet = t.read.windows(2).any(|w| w[0].0 == w[1].0) || t.write.windows(2).any(|w| w[0].0 == w[1].0);
-        if meet {
+        let void = t.write.iter().any(|&(_, (code, _, kind))| kind == 1 && found(&t.read, code).is_none());
+        if meet || void {
             return None;
         }
         t.index = Index::of(search, &t.read, &t.write);
@@ -515,6 +516,10 @@ pub fn check(record: &[u32; 7], states: &[u16], codes: &[u32], infos: &[u32], or
             if rank != 1 && length > 1 && code >> 24 == 0 {
                 return false;
             }
+        }
+        // A fallback stands behind a line of its code.
+        if rank == 2 && (i == 0 || codes[i - 1] != code || infos[i - 1] >> 24 != info >> 24) {
+            return false;
         }
         if i > 0 {
             if (codes[i - 1], infos[i - 1]) >= (code, info) {

@@ -80,7 +80,7 @@ pub fn codes() -> impl Iterator<Item = Vec<u8>> {
 /// letters, two-byte codes, some of them one way only.
 pub fn mappings() -> Vec<Mapping> {
     let mut next = 0x3000;
-    let mut out = Vec::new();
+    let mut out: Vec<Mapping> = Vec::new();
     for code in codes().take(MAPPINGS) {
         let cp = match code[..] {
             [b] if b < 0x80 => b as u32,
@@ -90,11 +90,11 @@ pub fn mappings() -> Vec<Mapping> {
                 next - 1
             }
         };
-        // Of every 64 two-byte codes: one fallback, one only to Unicode.
-        let kind = match out.len() % 64 {
-            7 if code.len() == 2 => 1,
-            9 if code.len() == 2 => 3,
-            _ => 0,
+        // Of every 64 two-byte codes: one fallback, to the code before it, and one only to Unicode.
+        let (code, kind) = match (out.len() % 64, out.last()) {
+            (7, Some(Mapping { code: read, .. })) if code.len() == 2 => (read.clone(), 1),
+            (9, _) if code.len() == 2 => (code, 3),
+            _ => (code, 0),
         };
         out.push(Mapping { cp, code, kind });
     }

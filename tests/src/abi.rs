@@ -2,7 +2,7 @@
 //! (70, nothing else happens) or longer than needed, numbers that are no scheme
 //! (71, nothing else happens), settings other than 1.
 
-use crate::cases::{equal, equal_memory, equal_slices, junk, old_bytes, old_entries, K};
+use crate::cases::{equal, equal_memory, equal_slices, junk, k_void, old_bytes, old_entries, K};
 use crate::oracle::Memory;
 use crate::raw::LINKED;
 
@@ -59,7 +59,7 @@ fn k() -> ([u32; 7], Memory) {
 
 fn load_short() -> Result<(), String> {
     for n in 0..8 {
-        for text in [K.as_bytes(), b"", b"x"] {
+        for text in [K.as_bytes(), b"", b"x", &k_void()] {
             let mut memory = junk(1);
             let mut result = vec![OLD; n];
             equal("number", LINKED.load(text, &mut memory, &mut result), 70)?;
@@ -71,14 +71,15 @@ fn load_short() -> Result<(), String> {
 }
 
 fn load_long() -> Result<(), String> {
-    for (text, first) in [
-        (K.as_bytes(), [0, 2, 6, 1, 2, 0x3f00_0000, 1, 0]),
-        (b"x", [1, 0, 0, 0, 0, 0, 0, 0]),
-        (b"", [1, 0, 0, 0, 0, 0, 0, 0]),
+    for (text, number, first) in [
+        (K.as_bytes(), 0, [0, 2, 6, 1, 2, 0x3f00_0000, 1, 0]),
+        (b"x", 10, [1, 0, 0, 0, 0, 0, 0, 0]),
+        (b"", 27, [1, 0, 0, 0, 0, 0, 0, 0]),
+        (&k_void(), 28, [15, 0, 0, 0, 0, 0, 0, 0]),
     ] {
         let mut memory = junk(1);
         let mut result = vec![OLD; 20];
-        LINKED.load(text, &mut memory, &mut result);
+        equal("number", LINKED.load(text, &mut memory, &mut result), number)?;
         equal_slices("result", &result[..8], &first)?;
         equal_slices("result behind", &result[8..], &[OLD; 12])?;
     }

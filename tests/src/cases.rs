@@ -122,6 +122,11 @@ fn k_change(changes: &[(usize, &str)]) -> Bytes {
     joined(&lines)
 }
 
+/// K with its `|1` line gone to 3F, which no line reads: 28 at line 15.
+pub fn k_void() -> Bytes {
+    k_line(13, "<UFF0D> \\x3F |1")
+}
+
 /// A text from its parts: header values, rows, mapping lines.
 pub fn text(min: u32, max: u32, class: &str, subchar: &str, rows: &[&str], lines: &[&str]) -> Bytes {
     let mut t = format!(
@@ -155,6 +160,14 @@ fn many(n: usize) -> Bytes {
         .collect();
     let lines: Vec<&str> = lines.iter().map(|l| l.as_str()).collect();
     mbcs(2, "\\x01\\x01", &["0-ff:1", "0-ff"], &lines)
+}
+
+const END: &[u8] = b"END CHARMAP\n";
+
+/// A text with lines put in before its last line, END CHARMAP.
+fn and(text: impl AsRef<[u8]>, lines: &[&str]) -> Bytes {
+    let open = text.as_ref().strip_suffix(END).expect("END CHARMAP is last");
+    [open, lines.join("\n").as_bytes(), b"\n", END].concat()
 }
 
 pub fn with_cr_lf(text: &[u8]) -> Bytes {
@@ -630,11 +643,13 @@ pub fn all() -> List {
     let mut l = List { cases: Vec::new() };
     document_cases(&mut l);
     numbers(&mut l);
+    fallbacks(&mut l);
     text_readings(&mut l);
     rule_readings(&mut l);
     sizes(&mut l);
     forms(&mut l);
     behind_60(&mut l);
+    behind_60_by_t10(&mut l);
     conversions(&mut l);
     utf32_k(&mut l);
     utf32_marks(&mut l);
@@ -863,7 +878,7 @@ fn numbers(l: &mut List) {
             k_line(10, format!("<U{bad}> \\x00\\x2D |0")), 20, 10);
     }
 
-    let bounds = ["<UD7FF> \\x01 |0", "<UE000> \\x02 |1", "<UFFFF> \\x03 |3", "<U0000> \\x04 |0", "<UE000> \\x05 |3"];
+    let bounds = ["<UD7FF> \\x01 |0", "<UE000> \\x02 |1", "<UFFFF> \\x03 |3", "<U0000> \\x04 |0", "<UE000> \\x02 |3"];
     l.yes("T6: the bounds", sbcs("<subchar> \\x3F", &bounds), [1, 5, 1, 1, 0x3f00_0000, 1, 0]);
 
     // 21
@@ -942,6 +957,193 @@ fn numbers(l: &mut List) {
     l.no("nearly END", k_line(15, "# END CHARMAP"), 27, 16);
     let open = k_delete(15);
     l.no1("no END, no last LF", &open[..open.len() - 1], 27, 15);
+}
+
+/// T10 and number 28 (S15): a `|0` or `|3` line reads what a `|1` line writes.
+fn fallbacks(l: &mut List) {
+    l.no("T10: K's |1 line to 3F, which no line reads", k_void(), 28, 15);
+    l.form(
+        "T10: K's |1 line to 81 7D, which a |3 line reads",
+        k_line(13, "<UFF0D> \\x81\\x7D |1"),
+        K_RECORD,
+        K_STATES,
+        &[
+            (0x2d00_0000, 0x0000_002d),
+            (0x3000_0000, 0x0000_0030),
+            (0x3300_0000, 0x0000_0033),
+            (0x817c_0000, 0x0100_2212),
+            (0x817d_0000, 0x0120_2212),
+            (0x817d_0000, 0x0140_ff0d),
+        ],
+        &[0, 1, 2, 3, 4, 5],
+    );
+    l.form(
+        "T10: K's |1 line to 2D, which a |0 line reads",
+        k_line(13, "<UFF0D> \\x2D |1"),
+        K_RECORD,
+        K_STATES,
+        &[
+            (0x2d00_0000, 0x0000_002d),
+            (0x2d00_0000, 0x0040_ff0d),
+            (0x3000_0000, 0x0000_0030),
+            (0x3300_0000, 0x0000_0033),
+            (0x817c_0000, 0x0100_2212),
+            (0x817d_0000, 0x0120_2212),
+        ],
+        &[0, 2, 3, 4, 5, 1],
+    );
+    l.no("T10: only another |1 line has the code", k_line(12, "<U2212> \\x81\\x7C |1"), 28, 15);
+    l.yes("T10: no |1 line", k_delete(13), [2, 5, 1, 2, 0x3f00_0000, 1, 0]);
+
+    // What stands behind END CHARMAP comes later, a line too that would read the code.
+    for behind in ["garbage", "CHARMAP", "CHARMAP\n<U003F> \\x3F |0\nEND CHARMAP", "END CHARMAP", "<U003F> \\x3F |0",
+        "<U0041> \\x3F |3", "<icu:base>", "# x", ""] {
+        let text = [&k_void()[..], behind.as_bytes(), b"\n"].concat();
+        l.no(&format!("T10: `{}` behind the end", behind.escape_debug()), text, 28, 15);
+    }
+    l.no("T10: K, `garbage` behind the end", [K, "garbage\n"].concat(), 10, 16);
+    l.no("T10: K, `CHARMAP` behind the end", [K, "CHARMAP\n"].concat(), 14, 16);
+    let void = k_void();
+    let open = void.strip_suffix(END).expect("END CHARMAP is last");
+    l.no("T10: no END", open, 27, 15);
+    l.no("T10: nearly END", [open, b"# END CHARMAP\n"].concat(), 27, 16);
+    l.no1("T10: END without a line's end", [open, b"END CHARMAP"].concat(), 28, 15);
+    l.no1("T10: END CR without LF", [open, b"END CHARMAP\r"].concat(), 10, 15);
+    l.no("T10: END with blanks and a comment", [open, b"\tEND \t CHARMAP # x\n"].concat(), 28, 15);
+    l.no("T10: blank and comment lines before the end", and(&void, &["", "# x", " \t"]), 28, 18);
+
+    // A line that is wrong, before the |1 line, itself or behind it.
+    for (n, line, number, at) in [
+        (3, "<mb_cur_max> 1", 16, 8),
+        (9, "garbage", 10, 9),
+        (10, "<U0041> \\x2D |0", 24, 10),
+        (12, "<U0033> \\x81\\x7C |0", 25, 12),
+        (13, "<UFF0D> \\x3F |4", 14, 13),
+        (13, "<UD800> \\x3F |1", 20, 13),
+        (13, "<U10000> \\x3F |1", 21, 13),
+        (13, "<U2212> \\x3F |1", 25, 13),
+        (14, "garbage", 10, 14),
+        (14, "CHARMAP", 14, 14),
+        (14, "<U0041> \\x2D |4", 14, 14),
+        (14, "<UD800> \\x2D |0", 20, 14),
+        (14, "<U0041> \\x99 |0", 21, 14),
+        (14, "<U0041> \\x2D |2", 23, 14),
+        (14, "<U0041> \\x2D |3", 24, 14),
+        (14, "<U0033> \\x81\\x7D |0", 25, 14),
+        (15, "END CHARMAP x", 10, 15),
+    ] {
+        let text = k_change(&[(13, "<UFF0D> \\x3F |1"), (n, line)]);
+        l.no(&format!("T10, though line {n} is `{line}`"), text, number, at);
+    }
+    let rows = ["0:1, 30", "0-ff"];
+    l.no("T10, though T7", mbcs(2, "\\x30", &rows, &["<U0041> \\x30 |1", "<U0042> \\x00\\x42 |0"]), 22, 10);
+
+    // The reader stands anywhere.
+    l.k("T10: the reader right behind",
+        k_change(&[(12, "<UFF0D> \\x81\\x7C |1"), (13, "<U2212> \\x81\\x7C |0")]));
+    l.k("T10: the |1 line first, the reader last", k_change(&[(9, "<UFF0D> \\x81\\x7C |1"), (10, "<U002D> \\x2D |0"),
+        (11, "<U0030> \\x30 |0"), (12, "<U2212> \\x81\\x7D |3"), (13, "<U0033> \\x33 |0"),
+        (14, "<U2212> \\x81\\x7C")]));
+    l.yes("T10: the |3 line right before",
+        k_change(&[(13, "<U2212> \\x81\\x7D |3"), (14, "<UFF0D> \\x81\\x7D |1")]), K_RECORD);
+
+    // Several |1 lines.
+    let four = ["<U2010> \\x81\\x7C |1", "<U2011> \\x81\\x7C |1", "<U2012> \\x81\\x7D |1", "<U2013> \\x81\\x7D |1"];
+    l.yes("T10: several |1 lines to codes that are read", and(K, &four), [2, 10, 1, 2, 0x3f00_0000, 1, 0]);
+    for i in 0..4 {
+        let mut lines = four;
+        lines[i] = "<U2014> \\x3F |1";
+        l.no(&format!("T10: number {} of four more goes to 3F", i + 1), and(K, &lines), 28, 19);
+    }
+    l.no("T10: two |1 lines to 3F", and(K, &["<U2010> \\x3F |1", "<U2011> \\x3F |1"]), 28, 17);
+    l.yes("T10: and a line that reads it", and(K, &["<U2010> \\x3F |1", "<U2011> \\x3F |1", "<U003F> \\x3F |3"]),
+        [2, 9, 1, 2, 0x3f00_0000, 1, 0]);
+
+    // |2 lines are not asked, and they do not read.
+    let sub = "<subchar> \\x3F\n<subchar1> \\x1A";
+    let record = |lines| [1, lines, 1, 1, 0x3f00_0000, 1, 0x1b];
+    let (two, one, three) = ("<U0041> \\x1A |2", "<U0042> \\x1A |1", "<U0043> \\x1A |3");
+    l.yes("T10: a |2 line whose byte nothing reads", sbcs(sub, &[two]), record(1));
+    l.no("T10: only a |2 line has the code", sbcs(sub, &[two, one]), 28, 10);
+    l.no("T10: only a |2 line has the code, other way", sbcs(sub, &[one, two]), 28, 10);
+    l.yes("T10: |1, |2 and |3 of one code", sbcs(sub, &[one, two, three]), record(3));
+    l.yes("T10: |3, |2 and |1 of one code", sbcs(sub, &[three, two, one]), record(3));
+    l.yes("T10: |2 not read, |1 read", sbcs(sub, &[two, "<U0042> \\x42 |1", "<U0043> \\x42"]), record(3));
+
+    // Bytes decide, not code points.
+    let s = |lines: &[&str]| sbcs("<subchar> \\x3F", lines);
+    let record = |lines| [1, lines, 1, 1, 0x3f00_0000, 1, 0];
+    l.no("T10: a |3 line has the code point alone", s(&["<U0033> \\x33 |3", "<U0033> \\x34 |1"]), 28, 9);
+    l.yes("T10: a |3 line has both", s(&["<U0033> \\x33 |3", "<U0033> \\x33 |1"]), record(2));
+    // First, between and last among the codes that are read.
+    for void in [0x40, 0x41, 0x42, 0x43, 0x44] {
+        let code = format!("<U0100> \\x{void:02X} |1");
+        let lines = ["<U0041> \\x41 |0", &code, "<U0043> \\x43 |3"];
+        let name = format!("T10: 41 and 43 are read, |1 to {void:02X}");
+        match void {
+            0x41 | 0x43 => l.yes(&name, s(&lines), record(3)),
+            _ => l.no(&name, s(&lines), 28, 10),
+        }
+    }
+    // 00, of which the unused places of the memory are full.
+    l.no("T10: |1 to 00 alone", s(&["<U0041> \\x00 |1"]), 28, 8);
+    l.yes("T10: |1 to 00, read as U+0000", s(&["<U0041> \\x00 |1", "<U0000> \\x00"]), record(2));
+    l.yes("T10: |1 to 00, read by |3", s(&["<U0041> \\x00 |1", "<U0042> \\x00 |3"]), record(2));
+
+    // Codes that begin alike.
+    let rows = ["41, 81:1", "0-3f, 40:2", "0-ff"];
+    let codes = ["\\x41", "\\x81\\x00", "\\x81\\x01", "\\x81\\x3F", "\\x81\\x40\\x00", "\\x81\\x40\\x01",
+        "\\x81\\x40\\xFF"];
+    for (read, written) in codes.iter().flat_map(|read| codes.map(|written| (*read, written))) {
+        for kind in ["|0", "|3"] {
+            let (read_line, line) = (format!("<U0041> {read} {kind}"), format!("<U0042> {written} |1"));
+            let text = mbcs(3, "\\x41", &rows, &[&read_line, &line]);
+            let name = format!("T10: {read} is read by {kind}, {written} is written");
+            match read == written {
+                true => l.yes(&name, text, [3, 2, 1, 3, 0x4100_0000, 1, 0]),
+                false => l.no1(&name, text, 28, 12),
+            }
+        }
+    }
+    // Packed alike: 41 and 41 00. No complete code begins another, so one of them breaks T5 first.
+    let (one, two) = (["30, 41"], ["30, 41:1", "0"]);
+    let lines = ["<U0041> \\x41 |0", "<U0042> \\x41\\x00 |1"];
+    l.no("T10: 41 is read, 41 00 is written", mbcs(2, "\\x30", &one, &lines), 21, 9);
+    l.no("T10: 41 is read, 41 00 is written and complete", mbcs(2, "\\x30", &two, &lines), 21, 9);
+    let lines = ["<U0042> \\x41 |1", "<U0041> \\x41\\x00 |0"];
+    l.no("T10: 41 00 is read, 41 is written", mbcs(2, "\\x30", &two, &lines), 21, 9);
+    l.no("T10: 41 00 is read, 41 is written and complete", mbcs(2, "\\x30", &one, &lines), 21, 9);
+
+    // Full tables: mapping i is line 8 + i.
+    let record = [2, 2048, 1, 2, 0x0101_0000, 2, 0];
+    l.no("T10: the last of 2,048 mappings", and(many(2047), &["<U0041> \\x09\\x00 |1"]), 28, 8 + 2048 + 1);
+    l.yes("T10: the last of 2,048 mappings, read", and(many(2047), &["<U0041> \\x01\\x00 |1"]), record);
+    l.yes("T10: the last of 2,048 mappings, read by the one before",
+        and(many(2047), &["<U0041> \\x08\\xFE |1"]), record);
+    l.no("T10, though a 2,049th mapping", and(many(2047), &["<U0041> \\x09\\x00 |1", "<U0042> \\x0A\\x00 |0"]), 26,
+        8 + 2049);
+    // So many |1 lines, then as many lines that read their codes, the other way round.
+    let halves = |written: usize, read: usize| {
+        let line = |cp: usize, i: usize, kind: &str| {
+            format!("<U{:04X}> \\x01\\x{:02X}\\x{:02X} {kind}", cp + i, i / 256, i % 256)
+        };
+        let first = (0..written).map(|i| line(0x1000, i, "|1"));
+        let then = (0..read).rev().map(|i| line(0x2000, i, if i % 2 == 0 { "|0" } else { "|3" }));
+        let lines: Vec<String> = first.chain(then).collect();
+        let lines: Vec<&str> = lines.iter().map(|l| l.as_str()).collect();
+        mbcs(3, "\\x01\\x00\\x00", &["1:1", "0-ff:2", "0-ff"], &lines)
+    };
+    let record = |lines| [3, lines, 1, 3, 0x0100_0000, 3, 0];
+    l.yes("T10: 1,024 |1 lines and their readers", halves(1024, 1024), record(2048));
+    l.no("T10: 1,024 |1 lines and 1,023 readers", halves(1024, 1023), 28, 9 + 2047 + 1);
+    l.yes("T10: 1,023 |1 lines and 1,024 readers", halves(1023, 1024), record(2047));
+    l.no("T10: 2,048 |1 lines", halves(2048, 0), 28, 9 + 2048 + 1);
+
+    // Fallback on, what is written reads.
+    let t = k_line(13, "<UFF0D> \\x81\\x7D |1");
+    l.from("|1 to the code of a |3 line", &t, "EFBC8D E28892", 9, FALL, 0, 6, "817D 817C");
+    l.from("|1 to the code of a |3 line, fallback off", &t, "EFBC8D", 9, STRICT, 53, 0, "");
+    l.to("|1 to the code of a |3 line, back", &t, "817D 817C", 9, STRICT, 0, 4, "E28892 E28892");
 }
 
 /// Readings R1 to R20.
@@ -1329,7 +1531,7 @@ fn sizes(l: &mut List) {
         m
     };
     let texts = [("K", K.as_bytes().to_vec()), ("empty", vec![]), ("too long", vec![b'#'; 1_048_577]),
-        ("no form", b"x".to_vec())];
+        ("no form", b"x".to_vec()), ("void", k_void())];
     for (which, slice) in ["states", "codes", "infos", "order"].into_iter().enumerate() {
         for by in [1, 2, MAPPING_PLACES] {
             for (what, text) in texts.clone() {
@@ -1360,7 +1562,8 @@ fn sizes(l: &mut List) {
     });
     for extra in [0, 1, 1000] {
         l.add(format!("slices {extra} places longer"), move |s| {
-            for (text, number) in [(K.as_bytes().to_vec(), 0), (k_delete(15), 27), (vec![b'#'; 1_048_577], 2)] {
+            for (text, number) in [(K.as_bytes().to_vec(), 0), (k_delete(15), 27), (k_void(), 28),
+                (vec![b'#'; 1_048_577], 2)] {
                 let mut memory = junk(extra);
                 let got = s.load(&text, &mut memory);
                 equal("number", got.number, number)?;
@@ -1402,6 +1605,7 @@ fn forms(l: &mut List) {
         "<U0041> \\x31 |3",
         "<U0043> \\x30 |1",
         "<U1F600> \\xA0 |1",
+        "<U1F602> \\xA0 |3",
         "<U1F601> \\x3F |2",
         "<U0044> \\x3F |2",
         "<U0040> \\xB0\\xFF |0",
@@ -1411,7 +1615,7 @@ fn forms(l: &mut List) {
     l.form(
         "all kinds",
         &t,
-        [6, 11, 1, 4, 0x8142_5000, 3, 0x40],
+        [6, 12, 1, 4, 0x8142_5000, 3, 0x40],
         &[
             (0, 0x30, 0x3f, 1),
             (0, 0x81, 0x81, 17),
@@ -1439,11 +1643,12 @@ fn forms(l: &mut List) {
             (0x8140_0000, 0x0100_0042),
             (0x8142_5000, 0x0220_0041),
             (0x8142_5260, 0x0310_ffff),
+            (0xa000_0000, 0x0021_f602),
             (0xa000_0000, 0x0041_f600),
             (0xb0ff_0000, 0x0100_0040),
         ],
-        // 0000, 0040, 0041 |0, 0041 |3 by bytes, 0042, 0043, 0044, 1F600, 1F601, 10FFFF
-        &[3, 10, 0, 2, 7, 6, 1, 4, 9, 5, 8],
+        // 0000, 0040, 0041 |0, 0041 |3 by bytes, 0042, 0043, 0044, 1F600, 1F601, 1F602, 10FFFF
+        &[3, 11, 0, 2, 7, 6, 1, 4, 10, 5, 9, 8],
     );
     l.form(
         "SBCS without rows",
@@ -1458,9 +1663,9 @@ fn forms(l: &mut List) {
         sbcs(
             "<subchar> \\xFF\n<subchar1> \\x50",
             &["<U0041> \\x41 |3", "<U0041> \\x42 |0", "<U0041> \\x40 |3", "<U0042> \\x43 |3", "<U0042> \\x44 |1",
-                "<U0043> \\x45 |3", "<U0043> \\x50 |2", "<U0044> \\x42 |1"],
+                "<U0043> \\x45 |3", "<U0043> \\x50 |2", "<U0044> \\x42 |1", "<U0045> \\x44 |3"],
         ),
-        [1, 8, 1, 1, 0xff00_0000, 1, 0x51],
+        [1, 9, 1, 1, 0xff00_0000, 1, 0x51],
         &[(0, 0, 255, 1)],
         &[
             (0x4000_0000, 0x0020_0041),
@@ -1468,11 +1673,12 @@ fn forms(l: &mut List) {
             (0x4200_0000, 0x0000_0041),
             (0x4200_0000, 0x0040_0044),
             (0x4300_0000, 0x0020_0042),
+            (0x4400_0000, 0x0020_0045),
             (0x4400_0000, 0x0040_0042),
             (0x4500_0000, 0x0020_0043),
             (0x5000_0000, 0x0080_0043),
         ],
-        &[2, 0, 1, 5, 4, 7, 6, 3],
+        &[2, 0, 1, 6, 4, 8, 7, 3, 5],
     );
     l.form("no mappings", mbcs(1, "\\x30", &["30"], &[]), [1, 0, 1, 1, 0x3000_0000, 1, 0], &[(0, 0x30, 0x30,
         1)], &[], &[]);
@@ -1643,7 +1849,7 @@ fn behind_60(l: &mut List) {
     l.behind60("length 1 for two bytes", 60, |_, m| m.infos[5] -= 1 << 24);
     l.behind60("length 3 for two bytes", 60, |_, m| m.infos[5] += 1 << 24);
     l.behind60("bits behind the code", 60, |_, m| m.codes[5] += 1);
-    l.behind60("|0 made |1", 0, |_, m| m.infos[0] += 2 << 21);
+    l.behind60("|0 made |1", 60, |_, m| m.infos[0] += 2 << 21);
     l.behind60("|0 made |3", 0, |_, m| m.infos[0] += 1 << 21);
     // Rank 4 is `|2`, whose code is subchar1's (T8).
     l.behind60("|0 made |2 without subchar1", 60, |_, m| m.infos[0] += 4 << 21);
@@ -1661,7 +1867,10 @@ fn behind_60(l: &mut List) {
     });
     l.behind60("T9 by bytes", 60, |_, m| m.infos[4] = 0x0120_ff0d);
     l.behind60("T9 by code point", 60, |_, m| m.infos[5] = 0x0100_2212);
-    l.behind60("T9 by code point, |1", 60, |_, m| m.infos[5] = 0x0140_2212);
+    l.behind60("T9 by code point, |1", 60, |_, m| {
+        m.infos[4] = 0x0140_2212;
+        m.order[..6].copy_from_slice(&[0, 1, 2, 3, 4, 5]);
+    });
     l.behind60("an entry twice", 60, |_, m| {
         m.codes[1] = m.codes[0];
         m.infos[1] = m.infos[0];
@@ -1674,7 +1883,10 @@ fn behind_60(l: &mut List) {
     let t = mbcs(2, "\\x30", &rows, &["<U0041> \\x00\\x41 |3"]);
     l.behind60_of("00 41 with |3", &t, 0, |_, _| {});
     l.behind60_of("00 41 with |0", &t, 60, |_, m| m.infos[0] -= 1 << 21);
-    l.behind60_of("00 41 with |1", &t, 60, |_, m| m.infos[0] += 1 << 21);
+    l.behind60_of("00 41 with |1", &t, 60, |r, m| {
+        r[1] = 2;
+        (m.codes[1], m.infos[1], m.order[1]) = (0x0041_0000, 0x0140_0042, 1);
+    });
     let bare = mbcs(1, "\\x30", &["30"], &[]);
     for (min, max, want) in [(1, 1, 0), (2, 1, 60), (4, 1, 60), (4, 3, 60), (4, 4, 0), (0, 1, 60), (4, 5, 60),
         (5, 5, 60), (0, 0, 60), (1, 4, 0), (2, 3, 0)] {
@@ -1700,11 +1912,112 @@ fn behind_60(l: &mut List) {
         equal("check", s.check(&K_RECORD, &Memory::zeros()), 60)
     });
     l.add("test behind 60, a refused load: 60", |s| {
-        let mut memory = junk(0);
-        let got = s.load(b"x", &mut memory);
-        equal("check", s.check(&got.record, &memory), 60)
+        for text in [b"x".to_vec(), k_void()] {
+            let mut memory = junk(0);
+            let got = s.load(&text, &mut memory);
+            equal("check", s.check(&got.record, &memory), 60)?;
+        }
+        Ok(())
     });
     l.add("test behind 60, old values: 60", |s| equal("check", s.check(&K_RECORD, &junk(0)), 60));
+}
+
+/// The same where T10 alone may be broken.
+fn behind_60_by_t10(l: &mut List) {
+    // K's lines: 2D, 30 and 33 |0; 81 7C |0 U+2212 and |1 U+FF0D; 81 7D |3 U+2212.
+    l.behind60("81 7C |0 made |3", 0, |_, m| m.infos[3] = 0x0120_2212);
+    l.behind60("81 7C |0 made |1", 60, |_, m| m.infos[3] = 0x0140_2212);
+    l.behind60("81 7C |0 moved to 81 7B", 60, |_, m| {
+        m.codes[3] = 0x817b_0000;
+        m.states[256 + 0x7b] = 1;
+    });
+    l.behind60("81 7D |3 made |1 of another code point", 60, |_, m| {
+        m.infos[5] = 0x0140_ff0e;
+        m.order[..6].copy_from_slice(&[0, 1, 2, 3, 4, 5]);
+    });
+    l.behind60("81 7C |0 left out", 60, |r, m| {
+        r[1] = 5;
+        m.codes.copy_within(4..6, 3);
+        m.infos.copy_within(4..6, 3);
+        (m.codes[5], m.infos[5]) = (0, 0);
+        m.order[..6].copy_from_slice(&[0, 1, 2, 4, 3, 0]);
+    });
+    l.behind60("81 7C |1 left out", 0, |r, m| {
+        r[1] = 5;
+        (m.codes[4], m.infos[4]) = (m.codes[5], m.infos[5]);
+        (m.codes[5], m.infos[5]) = (0, 0);
+        m.order[..6].copy_from_slice(&[0, 1, 2, 3, 4, 0]);
+    });
+    // The |1 line moved to another code: its place among the six lines, and the order.
+    type Moved = (u32, usize, [u32; 6], u32);
+    let moved: [Moved; 9] = [
+        (0x2b00_0000, 0, [1, 2, 3, 4, 5, 0], 60),
+        (0x2d00_0000, 1, [0, 2, 3, 4, 5, 1], 0),
+        (0x2e00_0000, 1, [0, 2, 3, 4, 5, 1], 60),
+        (0x3000_0000, 2, [0, 1, 3, 4, 5, 2], 0),
+        (0x3300_0000, 3, [0, 1, 2, 4, 5, 3], 0),
+        (0x3f00_0000, 3, [0, 1, 2, 4, 5, 3], 60),
+        (0x817b_0000, 3, [0, 1, 2, 4, 5, 3], 60),
+        (0x817d_0000, 5, [0, 1, 2, 3, 4, 5], 0),
+        (0x817e_0000, 5, [0, 1, 2, 3, 4, 5], 60),
+    ];
+    for (code, place, order, want) in moved {
+        l.behind60(&format!("the |1 line moved to {code:08X}"), want, move |_, m| {
+            let mut lines: Vec<(u32, u32)> = (0..6).filter(|&i| i != 4).map(|i| (m.codes[i], m.infos[i])).collect();
+            let second = (code >> 16) as usize % 256;
+            if second == 0 {
+                lines.insert(place, (code, 0x0040_ff0d));
+                m.states[(code >> 24) as usize] = 1;
+            } else {
+                lines.insert(place, (code, 0x0140_ff0d));
+                m.states[256 + second] = 1;
+            }
+            for (i, line) in lines.into_iter().enumerate() {
+                (m.codes[i], m.infos[i]) = line;
+            }
+            m.order[..6].copy_from_slice(&order);
+        });
+    }
+    // One code with all kinds of lines: 1A |0 U+0041, |1 U+0042, |1 U+0043, |2 U+0044.
+    let sub = "<subchar> \\x3F\n<subchar1> \\x1A";
+    let one = sbcs(sub, &["<U0041> \\x1A |0", "<U0042> \\x1A |1", "<U0043> \\x1A |1", "<U0044> \\x1A |2"]);
+    l.behind60_of("1A with |0, |1, |1, |2", &one, 0, |_, _| {});
+    l.behind60_of("1A with |3, |1, |1, |2", &one, 0, |_, m| m.infos[0] = 0x0020_0041);
+    l.behind60_of("1A with |1, |1, |1, |2", &one, 60, |_, m| m.infos[0] = 0x0040_0041);
+    l.behind60_of("1A with |1, |1, |2, |2", &one, 60, |_, m| {
+        m.infos[..4].copy_from_slice(&[0x0040_0042, 0x0040_0043, 0x0080_0041, 0x0080_0044]);
+        m.order[..4].copy_from_slice(&[2, 0, 1, 3]);
+    });
+    l.behind60_of("1A with |2 alone", &one, 0, |_, m| {
+        m.infos[..4].copy_from_slice(&[0x0080_0041, 0x0080_0042, 0x0080_0043, 0x0080_0044]);
+    });
+    l.behind60_of("1A with |1, 1B with |0", &one, 60, |_, m| {
+        m.codes[..4].copy_from_slice(&[0x1a00_0000, 0x1a00_0000, 0x1a00_0000, 0x1b00_0000]);
+        m.infos[..4].copy_from_slice(&[0x0040_0042, 0x0040_0043, 0x0080_0044, 0x0000_0041]);
+        m.order[..4].copy_from_slice(&[3, 0, 1, 2]);
+    });
+    // Behind the last line stand zeros, which are no line of 00.
+    let zero = sbcs("<subchar> \\x3F", &["<U0000> \\x00 |0", "<U0041> \\x00 |1"]);
+    l.behind60_of("00 with |0 and |1", &zero, 0, |_, _| {});
+    l.behind60_of("00 with |1 alone", &zero, 60, |r, m| {
+        r[1] = 1;
+        (m.infos[0], m.infos[1], m.order[1]) = (0x0040_0041, 0, 0);
+    });
+    // The first and the last of 2,048 lines.
+    for i in [0, 1, 1024, 2046, 2047] {
+        l.behind60_of(&format!("line {i} of 2,048 made |1"), many(2048), 60, move |_, m| m.infos[i] += 2 << 21);
+    }
+    for i in [1, 1024, 2047] {
+        l.behind60_of(&format!("line {i} of 2,048 made |1 of the code before"), many(2048), 0, move |_, m| {
+            m.codes[i] = m.codes[i - 1];
+            m.infos[i] += 2 << 21;
+        });
+        l.behind60_of(&format!("line {i} of 2,048 made |1 of the code before, a |1 too"), many(2048), 60, move |_, m| {
+            m.codes[i] = m.codes[i - 1];
+            m.infos[i - 1] += 2 << 21;
+            m.infos[i] += 2 << 21;
+        });
+    }
 }
 
 /// Both pipes beyond document 01's cases (R28, R29, R31 among them).
@@ -1827,15 +2140,17 @@ fn conversions(l: &mut List) {
     let rows = ["30-3f, 90.u, 81:1", "40, 80.u"];
     let sub = "<subchar> \\x81\\x40\n<subchar1> \\x3F";
     let lines = ["<U0030> \\x30 |0", "<U0031> \\x31 |1", "<U0032> \\x3F |2", "<U0033> \\x33 |3",
-        "<U0034> \\x30 |1"];
+        "<U0034> \\x30 |1", "<U0036> \\x31 |3"];
     let t = text(1, 2, "MBCS", sub, &rows, &lines);
-    for (input, out) in [("90", "1A"), ("35", "1A"), ("31", "1A"), ("3F", "1A"), ("33", "33"), ("8140",
-        "EFBFBD"), ("8180", "EFBFBD")] {
+    for (input, out) in [("90", "1A"), ("35", "1A"), ("3F", "1A"), ("8140", "EFBFBD"), ("8180", "EFBFBD")] {
         let read = hex(input).len() as u64;
         l.to(&format!("R29: {input}"), &t, input, 9, SUBST, 0, read, out);
-        if out != "33" {
-            l.to(&format!("R29: {input}, strict"), &t, input, 9, STRICT, 53, 0, "");
-        }
+        l.to(&format!("R29: {input}, strict"), &t, input, 9, STRICT, 53, 0, "");
+    }
+    // The |3 line reads; the |1 line of the same code does not.
+    for (input, out) in [("33", "33"), ("31", "36")] {
+        l.to(&format!("R29: {input}"), &t, input, 9, SUBST, 0, 1, out);
+        l.to(&format!("R29: {input}, strict"), &t, input, 9, STRICT, 0, 1, out);
     }
     for (input, set, number, out) in [
         ("30", STRICT, 0, "30"),
@@ -1853,6 +2168,8 @@ fn conversions(l: &mut List) {
         ("34", SUBST, 0, "8140"),
         ("34", FALL, 0, "30"),
         ("35", SUBST, 0, "8140"),
+        ("36", SUBST, 0, "8140"),
+        ("36", FALL, 53, ""),
     ] {
         let how = format!("U+00{input}, fallback {}, substitute {}", set.fallback, set.substitute);
         let read = if number == 0 { 1 } else { 0 };
@@ -2268,12 +2585,11 @@ fn utf32_settings(l: &mut List) {
     let rows = ["30-3f, 90.u, 81:1", "40, 80.u"];
     let sub = "<subchar> \\x81\\x40\n<subchar1> \\x3F";
     let lines = ["<U0030> \\x30 |0", "<U0031> \\x31 |1", "<U0032> \\x3F |2", "<U0033> \\x33 |3",
-        "<U0034> \\x30 |1"];
+        "<U0034> \\x30 |1", "<U0036> \\x31 |3"];
     let t = text(1, 2, "MBCS", sub, &rows, &lines);
     for (input, be, le) in [
         ("90", "0000001A", "1A000000"),
         ("35", "0000001A", "1A000000"),
-        ("31", "0000001A", "1A000000"),
         ("3F", "0000001A", "1A000000"),
         ("8140", "0000FFFD", "FDFF0000"),
         ("8180", "0000FFFD", "FDFF0000"),
@@ -2287,6 +2603,12 @@ fn utf32_settings(l: &mut List) {
         l.to_in(PLAIN, &format!("{input}, strict"), &t, input, 9, STRICT, 53, 0, "0000FEFF");
     }
     l.to_in(BE, "a |3 line reads", &t, "33", 9, STRICT, 0, 1, "00000033");
+    for (set, how) in [(STRICT, "strict"), (SUBST, "substitute")] {
+        let how = format!("a |3 line reads, the |1 line does not, {how}");
+        l.to_in(BE, &how, &t, "31", 9, set, 0, 1, "00000036");
+        l.to_in(LE, &how, &t, "31", 9, set, 0, 1, "36000000");
+        l.to_in(PLAIN, &how, &t, "31", 9, set, 0, 1, "0000FEFF 00000036");
+    }
     for (digit, set, number, out) in [
         ("30", STRICT, 0, "30"),
         ("31", STRICT, 53, ""),
@@ -2553,7 +2875,7 @@ fn skip_settings(l: &mut List) {
     let rows = ["30-3f, 90.u, 81:1", "40, 80.u"];
     let sub = "<subchar> \\x81\\x40\n<subchar1> \\x3F";
     let lines = ["<U0030> \\x30 |0", "<U0031> \\x31 |1", "<U0032> \\x3F |2", "<U0033> \\x33 |3",
-        "<U0034> \\x30 |1"];
+        "<U0034> \\x30 |1", "<U0036> \\x31 |3"];
     let t = text(1, 2, "MBCS", sub, &rows, &lines);
     for (input, set, number, read, out) in [
         ("20", SKIP, 0, 1, "EFBFBD"),
@@ -2930,17 +3252,18 @@ fn audits(l: &mut List) {
         "<U0032> \\x32 |3", // a |2 code point: 4 (R31)
         "<U0032> \\x3A |2", // read by nothing: 2
         "<U0033> \\x33 |3", // written as 34 with fallback, else 4
-        "<U0033> \\x34 |1", // read by nothing: 2
+        "<U0033> \\x34 |1",
+        "<U0034> \\x34 |0", // comes home, whatever else is written as 34
         "<U0035> \\x35 |3", // comes home through |1 with fallback, else 4
         "<U0035> \\x35 |1",
         "<U0030> \\x36 |3", // written as 30: 3
-        "<U0037> \\x37 |1", // not read: 2
+        "<U0037> \\x37 |1",
+        "<U0031> \\x37 |3", // reads as U+0031, not as U+0037: 4
     ];
     let t = text(1, 1, "MBCS", sub, &rows, &lines);
-    let off = [("31", 4), ("32", 4), ("33", 4), ("34", 2), ("35", 4), ("36", 3), ("37", 2), ("38", 2), ("39",
-        2), ("3A", 2), ("90", 1)];
-    let on = [("31", 4), ("32", 4), ("33", 3), ("34", 2), ("36", 3), ("37", 2), ("38", 2), ("39", 2), ("3A", 2),
+    let off = [("31", 4), ("32", 4), ("33", 4), ("35", 4), ("36", 3), ("37", 4), ("38", 2), ("39", 2), ("3A", 2),
         ("90", 1)];
+    let on = [("31", 4), ("32", 4), ("33", 3), ("36", 3), ("37", 4), ("38", 2), ("39", 2), ("3A", 2), ("90", 1)];
     l.audit("causes, fallback off", &t, false, begin, 99, 20, 0, &off, at("90"), true, 12);
     l.audit("causes, fallback on", &t, true, begin, 99, 20, 0, &on, at("90"), true, 12);
     // 00, codes of all lengths, dead ends between.

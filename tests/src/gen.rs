@@ -211,11 +211,13 @@ impl Filler {
         true
     }
 
+    /// A `|1` line is taken only behind a line that reads its code.
     fn add(&mut self, t: &mut Table, line: Line) -> bool {
         let fits = oracle::keeps_t5(t, &line)
             && oracle::keeps_t6(&line)
             && oracle::keeps_t7(&line)
             && oracle::keeps_t8(t, &line)
+            && (line.kind != Kind::FromUnicode || self.read.contains(&line.code))
             && t.lines.len() < oracle::MAX_LINES
             && self.take(&line);
         if fits {
@@ -225,15 +227,21 @@ impl Filler {
     }
 }
 
-/// Up to `tries` lines of all indicators; code points and codes meet often.
-pub fn random_lines(rng: &mut Rng, t: &mut Table, tries: usize) {
+/// Lines of all indicators, in `tries` tries up to `most`; code points and codes
+/// meet often. A `|1` line has the code of another one, and at times the code
+/// point of a third.
+pub fn random_lines(rng: &mut Rng, t: &mut Table, tries: usize, most: usize) {
     let mut filler = Filler::new();
     let rows = t.rows.clone();
     for _ in 0..tries {
+        if t.lines.len() == most {
+            break;
+        }
         let old = if t.lines.is_empty() { None } else { Some(rng.pick(&t.lines).clone()) };
         let kind = *rng.pick(&[Kind::Both, Kind::Both, Kind::Both, Kind::FromUnicode, Kind::ToUnicode, Kind::Sub1]);
         let code = match (kind, t.subchar1, &old) {
             (Kind::Sub1, Some(b), _) => vec![b],
+            (Kind::FromUnicode, _, Some(_)) => rng.pick(&t.lines).code.clone(),
             (_, _, Some(old)) if rng.one_in(4) => old.code.clone(),
             _ => match random_code(rng, &rows) {
                 Some(code) => code,
@@ -291,7 +299,7 @@ pub fn random_table(rng: &mut Rng, lines: usize) -> Made {
         subchar1,
     };
     let tries = if rng.one_in(10) { 0 } else { rng.below(lines + 1) };
-    random_lines(rng, &mut table, tries);
+    random_lines(rng, &mut table, tries, oracle::MAX_LINES);
     Made { table, rows, sbcs, implied }
 }
 
@@ -311,9 +319,12 @@ pub fn full_table(rng: &mut Rng, n: usize) -> Made {
     };
     let mut filler = Filler::new();
     while table.lines.len() < n {
-        let code = random_code(rng, &table.rows).expect("there are many");
-        let above = code.len() == 2;
         let kind = *rng.pick(&[Kind::Both, Kind::Both, Kind::FromUnicode, Kind::ToUnicode]);
+        let code = match kind == Kind::FromUnicode && !table.lines.is_empty() {
+            true => rng.pick(&table.lines).code.clone(),
+            false => random_code(rng, &table.rows).expect("there are many"),
+        };
+        let above = code.len() == 2;
         let cp = if above { rng.range(0x1_0000, 0x10_ffff) as u32 } else { random_cp(rng, false) };
         filler.add(&mut table, Line { cp, code, kind });
     }
@@ -352,8 +363,56 @@ pub fn narrow_table(rng: &mut Rng, max: usize) -> Made {
     let subchar = random_code(rng, &meant).unwrap_or(vec![few[0]]);
     let subchar1 = if rng.one_in(2) { Some(few[1]) } else { None };
     let mut table = Table { rows: meant, lines: Vec::new(), min: 1, max: max as u32, subchar, subchar1 };
-    random_lines(rng, &mut table, 30);
+    random_lines(rng, &mut table, 30, oracle::MAX_LINES);
     Made { table, rows, sbcs: false, implied: false }
+}
+
+/// Whether some line reads the code.
+fn is_read_in(t: &Table, code: &[u8]) -> bool {
+    t.lines.iter().any(|l| oracle::is_read(l.kind) && l.code == code)
+}
+
+/// The table changed so that some `|1` line's code is read by no line, all other
+/// rules being kept; None where this one does not serve.
+pub fn with_void(rng: &mut Rng, table: &Table) -> Option<Table> {
+    let mut t = table.clone();
+    let places = |kind: fn(Kind) -> bool| -> Vec<usize> {
+        (0..table.lines.len()).filter(|&i| kind(table.lines[i].kind)).collect()
+    };
+    let fallbacks = places(|kind| kind == Kind::FromUnicode);
+    let code = match rng.below(5) {
+        0 if !fallbacks.is_empty() => {
+            // The line that reads a fallback's code is left out.
+            let code = table.lines[*rng.pick(&fallbacks)].code.clone();
+            t.lines.retain(|l| !oracle::is_read(l.kind) || l.code != code);
+            code
+        }
+        1 if !fallbacks.is_empty() => {
+            // A fallback goes elsewhere.
+            let i = *rng.pick(&fallbacks);
+            t.lines[i].code = random_code(rng, &t.rows)?;
+            t.lines[i].code.clone()
+        }
+        2 | 3 => {
+            // A line that reads becomes a fallback, a fallback's reader or another.
+            let readers = places(oracle::is_read);
+            let i = *readers.get(rng.below(readers.len().max(1)))?;
+            t.lines[i].kind = Kind::FromUnicode;
+            t.lines[i].code.clone()
+        }
+        _ => {
+            // One fallback more, at times to the code of `|2` lines.
+            let code = match t.subchar1 {
+                Some(b) if rng.one_in(3) => vec![b],
+                _ => random_code(rng, &t.rows)?,
+            };
+            let above = complete(&t.rows, &code) == Some(Cell::Any);
+            let line = Line { cp: random_cp(rng, above), code: code.clone(), kind: Kind::FromUnicode };
+            t.lines.insert(rng.below(t.lines.len() + 1), line);
+            code
+        }
+    };
+    (!is_read_in(&t, &code) && oracle::keeps_t1_to_t9(&t)).then_some(t)
 }
 
 // ---------------------------------------------------------------------------
@@ -635,7 +694,7 @@ pub fn text_of(rng: &mut Rng, made: &Made) -> Vec<u8> {
 // Texts for a given number
 // ---------------------------------------------------------------------------
 
-pub const TEXT_NUMBERS: [u32; 15] = [10, 11, 12, 13, 14, 15, 16, 20, 21, 22, 23, 24, 25, 26, 27];
+pub const TEXT_NUMBERS: [u32; 16] = [10, 11, 12, 13, 14, 15, 16, 20, 21, 22, 23, 24, 25, 26, 27, 28];
 
 /// A text that is refused with this number at this line, by construction.
 pub fn text_for(rng: &mut Rng, number: u32) -> (Vec<u8>, u64) {
@@ -659,10 +718,25 @@ fn try_text_for(rng: &mut Rng, number: u32) -> Option<(Doc, usize)> {
         let made = full_table(rng, 2048);
         let mut doc = document(rng, &made);
         let at = doc.find(Tag::End);
-        // Only the count is wrong: |1 with a code point no line has.
+        // Only the count is wrong: |1 with a code point no line has, of any line's code.
         let used: HashSet<u32> = made.table.lines.iter().map(|l| l.cp).collect();
         let cp = (0x100..).find(|cp| !used.contains(cp))?;
-        doc.insert(at, mapping_text(cp, &[0x80, 0x80], "|1"));
+        doc.insert(at, mapping_text(cp, &rng.pick(&made.table.lines).code, "|1"));
+        return Some((doc, at));
+    }
+    if number == 28 {
+        let made = if rng.one_in(60) { full_table(rng, 2047) } else { random_table(rng, 12) };
+        let made = Made { table: with_void(rng, &made.table)?, ..made };
+        let mut doc = document(rng, &made);
+        let at = doc.find(Tag::End);
+        // What is wrong behind END CHARMAP comes later.
+        if rng.one_in(2) {
+            for _ in 0..rng.range(1, 3) {
+                let line = wrong_behind_end(rng, &made.table);
+                let place = rng.range(at + 1, doc.lines.len());
+                doc.insert(place, line);
+            }
+        }
         return Some((doc, at));
     }
 
@@ -994,12 +1068,29 @@ fn try_text_for(rng: &mut Rng, number: u32) -> Option<(Doc, usize)> {
             Some((doc, at))
         }
         27 => {
-            doc.lines.truncate(end);
+            if rng.one_in(3) {
+                // Without END CHARMAP there is no 28.
+                let table = with_void(rng, &t)?;
+                doc = document(rng, &Made { table, ..made });
+            }
+            doc.lines.truncate(doc.find(Tag::End));
             doc.last_end = true;
             let at = doc.lines.len();
             Some((doc, at))
         }
         _ => unreachable!("no text for number {number}"),
+    }
+}
+
+/// A line for behind END CHARMAP, mostly one that may not stand there; at times it
+/// would read what no line before it reads.
+fn wrong_behind_end(rng: &mut Rng, t: &Table) -> Vec<u8> {
+    let void = t.lines.iter().find(|l| l.kind == Kind::FromUnicode && !is_read_in(t, &l.code));
+    let reads = *rng.pick(&["|0", "|3"]);
+    match (void, rng.below(6)) {
+        (Some(void), 0) => mapping_text(void.cp, &void.code, reads),
+        (_, 0..=2) => soup(rng),
+        _ => rng.pick(&["x", "CHARMAP", "END CHARMAP", "<icu:base>", "\"", "<U0041> \\x41"]).as_bytes().to_vec(),
     }
 }
 
@@ -1437,7 +1528,7 @@ pub fn mutate(rng: &mut Rng, text: &[u8]) -> Vec<u8> {
     // Half of the time only in ways that mostly leave lines their form.
     let mild = rng.one_in(2);
     for _ in 0..rng.range(1, 4) {
-        let way = if mild { *rng.pick(&[6, 6, 6, 8, 9, 10, 13, 13]) } else { rng.below(14) };
+        let way = if mild { *rng.pick(&[6, 6, 6, 8, 9, 10, 13, 13, 14, 14]) } else { rng.below(15) };
         match way {
             _ if t.is_empty() => t.extend(*rng.pick(TOKENS)),
             0 => {
@@ -1478,6 +1569,14 @@ pub fn mutate(rng: &mut Rng, text: &[u8]) -> Vec<u8> {
                 if !signs.is_empty() {
                     let i = *rng.pick(&signs);
                     t[i] = *rng.pick(b"<>|\\,:.-+\"# ");
+                }
+            }
+            14 => {
+                // Another indicator, mostly that of a fallback.
+                let bars: Vec<usize> = (1..t.len()).filter(|&i| t[i - 1] == b'|').collect();
+                if !bars.is_empty() {
+                    let i = *rng.pick(&bars);
+                    t[i] = *rng.pick(b"11110234");
                 }
             }
             way => {
@@ -1823,7 +1922,7 @@ pub fn stop_in_frame(rng: &mut Rng, t: &Table) -> Option<(Vec<u8>, u32)> {
             Some((code, 51))
         }
         1 => {
-            let read = t.lines.iter().any(|l| oracle::is_read(l.kind) && l.code == code);
+            let read = is_read_in(t, &code);
             (!read).then_some((code, 53))
         }
         _ => None,

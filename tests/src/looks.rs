@@ -366,9 +366,8 @@ fn deep_table(rng: &mut Rng, n: usize) -> Made {
     let rows = vec![leads(1), leads(2), leads(3), vec![ends(0xff)]];
     let (meant, subchar) = (rows.iter().map(|row| cells(row)).collect(), vec![0x80, 0x3f]);
     let mut table = Table { rows: meant, lines: Vec::new(), min: 1, max: 4, subchar, subchar1: Some(0x1a) };
-    random_lines(rng, &mut table, 100 + 8 * n);
-    assert!(n <= table.lines.len(), "tries enough for {n} lines");
-    table.lines.truncate(n);
+    random_lines(rng, &mut table, 100 + 8 * n, n);
+    assert_eq!(table.lines.len(), n, "tries enough");
     Made { table, rows, sbcs: false, implied: false }
 }
 

@@ -2,7 +2,7 @@
 //! second opinion that the library is compared with. It may be slow; it has to
 //! be easy to hold against the documents, rule by rule and number by number.
 //!
-//! The text is first turned into its meaning, a `Table`. All rules (T1 to T9),
+//! The text is first turned into its meaning, a `Table`. All rules (T1 to T10),
 //! both pipes, whole and in pieces, and the audit are functions of that meaning. `form` turns a
 //! meaning into the fixed numbers of record and memory, `meaning_of` goes back.
 
@@ -396,6 +396,10 @@ pub fn meaning_of_text(text: &[u8]) -> Result<Table, Refused> {
                 if is_charmap(line) {
                     return Err(refused(14)); // second CHARMAP
                 } else if is_end_charmap(line) {
+                    // 28 stands alone here; what is wrong behind this line comes later (S15).
+                    if !keeps_t10(&body.table) {
+                        return Err(refused(28));
+                    }
                     ended = true;
                 } else {
                     body.mapping_line(line).map_err(refused)?;
@@ -729,7 +733,18 @@ pub fn keeps_t9(t: &Table) -> bool {
         .all(|l| (!is_read(l.kind) || read.insert(&l.code)) && (!is_of_code_points(l.kind) || written.insert(l.cp)))
 }
 
+/// The bytes of every `|1` line are in some `|0` or `|3` line. A `|2` line is
+/// neither asked nor does it read (S15).
+pub fn keeps_t10(t: &Table) -> bool {
+    let read: HashSet<&[u8]> = t.lines.iter().filter(|l| is_read(l.kind)).map(|l| l.code.as_slice()).collect();
+    t.lines.iter().all(|l| l.kind != Kind::FromUnicode || read.contains(l.code.as_slice()))
+}
+
 pub fn keeps_all(t: &Table) -> bool {
+    keeps_t1_to_t9(t) && keeps_t10(t)
+}
+
+pub fn keeps_t1_to_t9(t: &Table) -> bool {
     keeps_t1(t)
         && keeps_t2(t)
         && keeps_t3(t)
@@ -859,7 +874,7 @@ pub fn form(t: &Table) -> (Record, Memory) {
     (record, memory)
 }
 
-/// The test behind 60: the table that keeps T1 to T9 and has this record and
+/// The test behind 60: the table that keeps T1 to T10 and has this record and
 /// memory as its form, if there is one.
 pub fn meaning_of(record: &Record, memory: &Memory) -> Option<Table> {
     if memory.is_too_small() {

@@ -1,7 +1,7 @@
 //! The program's hand-written cases. What is wanted is written out from
 //! document 01; long outputs are put together from plain parts.
 
-use crate::cases::{dressed, k_delete, k_insert, k_line, mbcs, text, with_cr_lf, K};
+use crate::cases::{dressed, k_delete, k_insert, k_line, k_void, mbcs, text, with_cr_lf, K};
 use crate::program::MAX_TABLE;
 use crate::program_runs::{gives, reads_locked_files, Place, Program};
 
@@ -182,6 +182,10 @@ fn refused_tables(l: &mut List) {
     // Eight lines up to CHARMAP.
     l.refused("2,049 mappings", full(2_049).text, 26, 2_057);
     l.refused("no END CHARMAP", k_delete(15), 27, 15);
+    l.refused("a fallback that nothing reads", k_void(), 28, 15);
+    l.refused("a fallback that nothing reads, a line after END CHARMAP", [&k_void()[..], b"x\n"].concat(), 28, 15);
+    l.refused("a fallback that nothing reads, CR LF", with_cr_lf(&k_void()), 28, 15);
+    l.refused("the last of 2,048 mappings a fallback that nothing reads", full_and_void(), 28, 2_057);
     l.refused("a line after END CHARMAP", format!("{K}x"), 10, 16);
     l.refused("CHARMAP again", format!("{K}CHARMAP\n"), 14, 16);
     l.refused("line 10,000", format!("{}x", "\n".repeat(9_999)), 10, 10_000);
@@ -252,6 +256,12 @@ fn full(n: usize) -> Table {
     let rest: String = (n..2_304).map(|i| format!("{:02X}{:02X} 2\n", 1 + i / 256, i % 256)).collect();
     let audit = format!("{rest}LOOKED 2304 LISTED {}\n", 2_304 - n);
     Table { text: text.into_bytes(), mappings: n, audit }
+}
+
+/// 2,047 of them, and a fallback to 09 00, which nothing reads.
+fn full_and_void() -> String {
+    let text = String::from_utf8(full(2_047).text).expect("ASCII");
+    text.replace("END CHARMAP", "<U41>\\x09\\x00|1\nEND CHARMAP")
 }
 
 fn frames(l: &mut List) {

@@ -195,7 +195,7 @@ impl Reached {
 
 /// What a run of some thousand cases has to reach.
 pub const TO_REACH: &[(&str, &[u32])] = &[
-    ("load", &[0, 1, 2, 10, 11, 12, 13, 14, 15, 16, 20, 21, 22, 23, 24, 25, 26, 27]),
+    ("load", &[0, 1, 2, 10, 11, 12, 13, 14, 15, 16, 20, 21, 22, 23, 24, 25, 26, 27, 28]),
     ("check", &[0, 60]),
     ("to UTF-8", PIPE_NUMBERS),
     ("to UTF-32BE", PIPE_NUMBERS),
@@ -327,6 +327,7 @@ pub fn run(s: &dyn Subject, input: &Input, compare: bool, reached: &mut Reached)
                     want.set_needed(&form);
                     equal_memory(&memory, &want)?;
                     equal("check of the loaded memory", s.check(&got.record, &memory), 0)?;
+                    reads_back(s, table, &got.record, &memory)?;
                 }
                 Known::Refused(number, line) => {
                     equal("number and line", (got.number, got.line), (*number, *line))?;
@@ -355,6 +356,20 @@ pub fn run(s: &dyn Subject, input: &Input, compare: bool, reached: &mut Reached)
             equal_memory(&memory, &before)
         }
     }
+}
+
+/// What the `|0` and `|1` lines write is read by some line (T10).
+fn reads_back(s: &dyn Subject, t: &Table, record: &Record, memory: &Memory) -> Result<(), String> {
+    let writing = || t.lines.iter().filter(|l| matches!(l.kind, Kind::Both | Kind::FromUnicode));
+    let text: Vec<u8> = writing().flat_map(|l| gen::character(Scheme::Utf8, l.cp)).collect();
+    let codes: Vec<u8> = writing().flat_map(|l| l.code.clone()).collect();
+    let strict = Settings { fallback: true, substitute: false, skip: false };
+    let mut output = vec![0; codes.len()];
+    let got = s.from_unicode(record, memory, &text, &mut output, Scheme::Utf8, strict);
+    equal("all that is written", (got.number, got.read), (0, text.len() as u64))?;
+    equal_slices("all codes that are written", &output, &codes)?;
+    let got = s.to_unicode(record, memory, &codes, &mut vec![0; 4 * codes.len()], Scheme::Utf8, strict);
+    equal("what is written reads back", (got.number, got.read), (0, codes.len() as u64))
 }
 
 fn run_act(
@@ -601,6 +616,7 @@ pub const GROUPS: &[Group] = &[
     Group { name: "test behind 60: forms of valid tables", share: 30, on_oracle: true, make: check_valid },
     Group { name: "test behind 60: one number changed", share: 50, on_oracle: false, make: check_change },
     Group { name: "test behind 60: changed tables, disorder", share: 50, on_oracle: false, make: check_broken },
+    Group { name: "test behind 60: a fallback that nothing reads", share: 15, on_oracle: true, make: check_void },
     Group { name: "test behind 60: random memories", share: 20, on_oracle: false, make: check_random },
     Group { name: "pipes: known texts and stops both ways", share: 60, on_oracle: true, make: pipe_known },
     Group { name: "to Unicode: valid, damaged, cut frames", share: 70, on_oracle: false, make: to_random },
@@ -720,20 +736,38 @@ fn check_change(rng: &mut Rng) -> Input {
     Input::Memory { base: gen::text_of(rng, &made), changes, lengths, act: Act::Check { known: None } }
 }
 
-/// A changed table in the fixed form, or a form in disorder.
+/// A changed table in the fixed form, or a form in disorder. At times T10 alone is
+/// broken.
 fn broken(rng: &mut Rng, made: &Made) -> Vec<Change> {
     if rng.one_in(4) {
-        gen::disorder(rng, &made.table)
-    } else {
-        let other = gen::break_table(rng, &made.table);
-        gen::changes_between(&oracle::form(&made.table), &oracle::form(&other))
+        return gen::disorder(rng, &made.table);
     }
+    let void = if rng.one_in(6) { gen::with_void(rng, &made.table) } else { None };
+    let other = void.unwrap_or_else(|| gen::break_table(rng, &made.table));
+    changes_to(made, &other)
+}
+
+fn changes_to(made: &Made, other: &Table) -> Vec<Change> {
+    gen::changes_between(&oracle::form(&made.table), &oracle::form(other))
 }
 
 fn check_broken(rng: &mut Rng) -> Input {
     let made = a_table(rng);
     let changes = broken(rng, &made);
     Input::Memory { base: gen::text_of(rng, &made), changes, lengths: lengths(rng), act: Act::Check { known: None } }
+}
+
+/// T10 alone is broken.
+fn check_void(rng: &mut Rng) -> Input {
+    let (made, changes) = loop {
+        let made = a_table(rng);
+        if let Some(void) = gen::with_void(rng, &made.table) {
+            let changes = changes_to(&made, &void);
+            break (made, changes);
+        }
+    };
+    let act = Act::Check { known: Some(60) };
+    Input::Memory { base: gen::text_of(rng, &made), changes, lengths: lengths(rng), act }
 }
 
 fn check_random(rng: &mut Rng) -> Input {

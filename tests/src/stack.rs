@@ -3,7 +3,7 @@
 //! it wrote to tells.
 
 use crate::abi::AbiCase;
-use crate::cases::{equal, junk, K};
+use crate::cases::{equal, junk, k_void, K};
 use crate::memory::Memory;
 use crate::raw::LINKED;
 use std::arch::asm;
@@ -79,10 +79,11 @@ pub fn loaded(text: &[u8]) -> ([u32; 7], Memory) {
 }
 
 fn load() -> Result<(), String> {
-    for text in [K.to_string(), deep(), "<icu:state> 0-ff:1, 80-\n".repeat(9), K.repeat(2)] {
+    let texts = [K.to_string(), deep(), "<icu:state> 0-ff:1, 80-\n".repeat(9), K.repeat(2)];
+    for text in texts.map(String::into_bytes).into_iter().chain([k_void()]) {
         let (mut memory, mut result) = (junk(0), [0; 8]);
         at_most("load", 2 * KIB, &mut || {
-            LINKED.load(text.as_bytes(), &mut memory, &mut result);
+            LINKED.load(&text, &mut memory, &mut result);
         })?;
     }
     Ok(())

@@ -80,7 +80,7 @@ module _ (t : Table) (fallback : Bool) where
   codes-are : Keeps limits t → (s : List ℕ) → In s codes ↔ (AllByte s × (isCode (stepsOf t) 0 s ≡ true))
   codes-are k s =
       let m = kept-sizes limits t k .most in
-      ((λ i. (complete s i .bytes, is-code s (complete s i .ends))), (λ h. codes-whole (stepsOf t) (t .max) 0 s (k .rule3) m (h .0) (code-length (stepsOf t) s (h .1) .0)))
+      ((λ i. (complete s i .bytes, is-code s (complete s i .ends))), (λ h. codes-whole (stepsOf t) (t .max) 0 s (k .so-far .rule3) m (h .0) (code-length (stepsOf t) s (h .1) .0)))
 
   -- calls that represent an entry by `number`
   module _ {F : Type 0} (number : Finding → F) where

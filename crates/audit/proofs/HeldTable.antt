@@ -62,4 +62,4 @@ module _ (t : Table) (p : Proper t) (k : Keeps limits t) (rec : Record) (m : Sli
   unfolding auditTested
   auditTested-auditOn fallback pos allowance space =
       pick-yes (valid limits rec m) (auditOn (tableIn rec m) fallback pos allowance space) (refused BadTable pos) (form-valid limits t p k rec m f)
-      ∙ audit-same t (tableIn rec m) (SameTable-tableIn limits t p k rec m f) (k .rule9) fallback pos allowance space
+      ∙ audit-same t (tableIn rec m) (SameTable-tableIn limits t p k rec m f) (k .so-far .rule9) fallback pos allowance space

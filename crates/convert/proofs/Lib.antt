@@ -11,6 +11,8 @@ pub mod PieceRuns
 pub mod JoinedPieces
 pub mod KeptForms
 pub mod PieceSteps
+pub mod CompleteCodes
+pub mod ReadsBack
 pub mod PieceStops
 pub mod PieceKept
 mod PieceStates
@@ -21,7 +23,6 @@ pub mod PieceDue
 pub mod PieceGuard
 mod Marked
 mod PieceTests
-pub mod CompleteCodes
 pub mod ThereAndBack
 pub mod RoundTrips
 pub mod SchemeText

@@ -84,14 +84,14 @@ module _ (t : Table) (p : Proper t) (k : Keeps limits t) (rec : Record) (m : Sli
   unfolding toTested
   to-held e settings x room =
       pick-yes (valid limits rec m) (toRun e (tableIn rec m) settings x room) (endedWith BadTable 0) kept
-      ∙ ap (λ (step : Side → SequenceStep). writeIn e (λ side. runOf (step side) 0 0 x) room) (λ i side. to-same t (tableIn rec m) held (k .rule9) side settings i)
+      ∙ ap (λ (step : Side → SequenceStep). writeIn e (λ side. runOf (step side) 0 0 x) room) (λ i side. to-same t (tableIn rec m) held (k .so-far .rule9) side settings i)
 
   pub from-held : (e : Scheme) (settings : Settings) (x : List ℕ) (room : ℕ)
       → fromTested e limits rec m settings x room ≡ fromRun e t settings x room
   unfolding fromTested
   from-held e settings x room =
       pick-yes (valid limits rec m) (fromRun e (tableIn rec m) settings x room) (endedWith BadTable 0) kept
-      ∙ ap (λ (step : Side → SequenceStep). readIn e (λ side. runOf (step side) 0 0) x room) (λ i side. from-same t (tableIn rec m) held (k .rule9) side settings i)
+      ∙ ap (λ (step : Side → SequenceStep). readIn e (λ side. runOf (step side) 0 0) x room) (λ i side. from-same t (tableIn rec m) held (k .so-far .rule9) side settings i)
 
 -- OF EVERY ACCEPTED TEXT, whatever the lent slices held: over what its load gave and left in them, in the words of the load's own promise
 module _ (text : List ℕ) (old : Slices) (t : Table) where

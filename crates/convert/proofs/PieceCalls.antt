@@ -129,14 +129,14 @@ module _ (t : Table) (p : Proper t) (ks : Keeps limits t) (rec : Record) (m : Sl
     pieceIn-same k piece room =
         ap (λ (x : SequenceStep). unless (k .stands) k (let due = dueIn way e (k .state) in
         if leb (length due) room then led due (pieceOn x (pastDue way e k) piece (room - length due)) else idle OutputFull k))
-        (stepIn-same t (tableIn rec m) (held t p ks rec m form) (ks .rule9) way e settings)
+        (stepIn-same t (tableIn rec m) (held t p ks rec m form) (ks .so-far .rule9) way e settings)
 
     module _ (k : Carry) (h : Passes way e t settings k) where
       unrefused : (r : PieceRun) → pieceGuarded way e limits rec m settings (keptAs k) r ≡ answeredPiece r
       unrefused r =
           pick-yes (valid limits rec m) _ _ (kept t p ks rec m form)
           ∙ pick-yes (keptFits way e (stepsOf (tableIn rec m)) settings (keptAs k)) _ _
-          (ap (λ (rows : Rows). keptFits way e rows settings (keptAs k)) (steps-same t (tableIn rec m) (held t p ks rec m form) (ks .rule9)) ∙ h .fits)
+          (ap (λ (rows : Rows). keptFits way e rows settings (keptAs k)) (steps-same t (tableIn rec m) (held t p ks rec m form) (ks .so-far .rule9)) ∙ h .fits)
 
       back : carryIn (keptAs k) ≡ k
       back = carryIn-keptAs k (h .bytes) (h .few) (h .state)

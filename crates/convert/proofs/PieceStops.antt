@@ -10,11 +10,11 @@ use mathlib.Core.Bool.{Bool, true, false}
 use mathlib.Core.Option.{Option, none, some}
 use native.Mathlib.Omega.{arith}
 use borrow.Author.Tests.{ltb-true, ltb-false, leb-true}
-use lib.Dec.{ltb, leb, eqb}
+use lib.Dec.{ltb, leb}
 use lib.ListN.{length, take, drop, take-append-drop}
 use lib.Seq.{take-append-le}
 use Rattle.lists.proofs.Laws.{and-left, and-right}
-use Rattle.lists.proofs.Cases.{pick-case, pick-yes, pick-no}
+use Rattle.lists.proofs.Cases.{pick-case, pick-yes}
 use Rattle.lists.proofs.Order.{All-In⁻}
 use Rattle.lists.proofs.First.{firstOf-some⁻}
 use Rattle.lists.proofs.AllAny.{all-true}
@@ -38,7 +38,7 @@ use Rattle.unicode.proofs.RoundTrip.{utf8-decode-encode}
 use Rattle.table.specs.Limits.{Limits}
 use Rattle.table.specs.States.{longest, cutOf}
 use Rattle.table.specs.Codes.{AllByte}
-use Rattle.table.specs.Meaning.{Line, Table, stepsOf, hasCode, isSubstituted, reader, writer}
+use Rattle.table.specs.Meaning.{Line, Table, stepsOf, hasCode, reader, writer}
 use Rattle.table.specs.Rules.{t5, Keeps}
 use Rattle.table.specs.declared.states.Cut.{Cut}
 use Rattle.table.specs.declared.states.Cut.the-variants as cut
@@ -46,6 +46,7 @@ use Rattle.table.specs.declared.states.CutStop.the-variants as cutStop
 use Rattle.table.proofs.Cuts.{cut-more, cut-within, cut-short-leads, no-ends-zero}
 use Rattle.table.proofs.KeptSizes.{kept-sizes, kept-short}
 use Rattle.table.proofs.FormTested.{code-length}
+use Rattle.table.proofs.ReadBack.{writesCode⇒hasCode}
 use Rattle.convert.specs.Run.{Gives, give, stop, SequenceStep}
 use Rattle.convert.specs.Step.{skipped, pointFor, onCut, toSequence, toPlain, toStep}
 use Rattle.convert.specs.Step.{Written, code, subchar1, nothing, writtenBy, writes, sub1Bytes, substituted, sentFor, onSequence, fromPlain, fromStep}
@@ -57,6 +58,7 @@ use Rattle.convert.specs.loops.Inner.{Pieceable, AtMost}
 use Rattle.convert.proofs.PlainSteps.{utf8-lawful, lawful, stop-by, to-complete}
 use Rattle.convert.proofs.Skipping.{given-by, stopped-by}
 use Rattle.convert.proofs.Steps.{four-bytes, to-gives, from-stopped}
+use Rattle.convert.proofs.ReadsBack.{written-line}
 use Rattle.convert.proofs.PieceSteps.{inState-give⁻, inState-stop⁻, markAt-++, from-short}
 
 -- what is seen in a list from n bytes alone, whatever follows, and is not seen in a beginning, takes more than that
@@ -275,7 +277,7 @@ stepIn-four-to e t settings st s bs n next q =
 
 module _ (lim : Limits) (t : Table) (keeps : Keeps lim t) (bytes : AllByte (t .subchar)) where
   subchar-few : length (t .subchar) ≤ 4
-  subchar-few = kept-short lim t keeps (t .subchar) bytes (code-length (stepsOf t) (t .subchar) (keeps .rule4-sub) .0)
+  subchar-few = kept-short lim t keeps (t .subchar) bytes (code-length (stepsOf t) (t .subchar) (keeps .so-far .rule4-sub) .0)
 
   line-few : (l : Line) → t5 (stepsOf t) (t .min) (t .max) l ≡ true → hasCode l ≡ true → length (l .code) ≤ 4
   line-few l ok h =
@@ -283,22 +285,18 @@ module _ (lim : Limits) (t : Table) (keeps : Keeps lim t) (bytes : AllByte (t .s
       let m = leb-true (length (l .code)) (t .max) (and-left (leb (length (l .code)) (t .max)) _ (and-right (leb (t .min) (length (l .code))) _ r)) in
       omega (arith, kept-sizes lim t keeps .most)
 
-  written-few : (fallback : Bool) (o : Option Line) → ((l : Line) → o ≡ some l → t5 (stepsOf t) (t .min) (t .max) l ≡ true) → CodeFew (writtenBy fallback o)
-  written-few fallback none h = tt
-  written-few fallback (some l) h =
-      pick-case CodeFew (eqb (l .indicator) 0) _ _
-      (λ q. line-few l (h l refl) (pick-yes (eqb (l .indicator) 0) true _ q))
-      (λ q. pick-case CodeFew (eqb (l .indicator) 1) _ _
-      (λ p. pick-case CodeFew fallback _ _
-      (λ y. line-few l (h l refl) (pick-no (eqb (l .indicator) 0) true _ q ∙ pick-yes (eqb (l .indicator) 1) true _ p))
-      (λ y. tt))
-      (λ p. pick-case CodeFew (isSubstituted l) _ _ (λ y. tt) (λ y. tt)))
-
   writes-few : (fallback : Bool) (c : ℕ) → CodeFew (writes t fallback c)
   unfolding writes
-  writes-few fallback c =
-      written-few fallback (writer c (t .lines))
-      (λ l q. All-In⁻ (λ x. t5 (stepsOf t) (t .min) (t .max) x ≡ true) l (t .lines) (all-true _ (t .lines) (keeps .rule5)) (firstOf-some⁻ _ l (t .lines) q .0))
+  writes-few fallback c = go (writtenBy fallback (writer c (t .lines))) refl
+    where
+      go : (w : Written) → writtenBy fallback (writer c (t .lines)) ≡ w → CodeFew w
+      go (code b) e =
+          let (l, q, w, own) = written-line fallback (writer c (t .lines)) b e in
+          let kept =
+          All-In⁻ (λ x. t5 (stepsOf t) (t .min) (t .max) x ≡ true) l (t .lines) (all-true _ (t .lines) (keeps .so-far .rule5)) (firstOf-some⁻ _ l (t .lines) q .0) in
+          omega (arith, line-few l kept (writesCode⇒hasCode l w), ap length own)
+      go subchar1 e = tt
+      go nothing e = tt
 
   sub1-few : (o : Option ℕ) → length (sub1Bytes o (t .subchar)) ≤ 4
   sub1-few none = subchar-few

@@ -64,7 +64,7 @@ module _ (u : Side) (law : LawfulSide u) (lim : Limits) (t : Table) (keeps : Kee
     step-back : (w : Written) → writes t fallback (l .point) ≡ w → fromStep u t (strict fallback) 0 text ≡ sentFor t false 0 (length text) w
     step-back w e =
         from-gives u t (strict fallback) 0 text (l .point) (length text)
-        (ap (u .decode) (sym (append-nil text)) ∙ law .put-reads (l .point) [] (reader-scalar t c l (keeps .rule6) q))
+        (ap (u .decode) (sym (append-nil text)) ∙ law .put-reads (l .point) [] (reader-scalar t c l (keeps .so-far .rule6) q))
         ∙ ap (sentFor t false 0 (length text)) e
 
     back : (d : List ℕ) → writes t fallback (l .point) ≡ code d → length d ≤ room′ → fromSide u t (strict fallback) text room′ ≡ allRead text d

@@ -92,7 +92,7 @@ module _ (u : Side) (t : Table) (settings : Settings) where
       → TakesIn (stepsOf t) 0 (t .max) s n
   unfolding toStep
   to-takes-in lim keeps s bytes n e =
-      takes-in (stepsOf t) 0 (t .max) (keeps .rule3) (kept-sizes lim t keeps .most) s bytes n
+      takes-in (stepsOf t) 0 (t .max) (keeps .so-far .rule3) (kept-sizes lim t keeps .most) s bytes n
       (to-illegal t settings 0 u s n (stopped-by (settings .skip) (u .encode 0xfffd) 0 (toPlain u t settings 0 s) (stopped.Illegal n) e .0))
 
   -- at the place read

@@ -24,7 +24,7 @@ use Rattle.convert.proofs.CompleteCodes.{some-bytes, code-gives}
 
 module _ (lim : Limits) (t : Table) (keeps : Keeps lim t) (settings : Settings) where
   scalar : (h : RoundTripCode t (settings .fallback)) → Scalar (h .round-trips .line .point)
-  scalar h = reader-scalar t (h .code) (h .round-trips .line) (keeps .rule6) (h .round-trips .reads)
+  scalar h = reader-scalar t (h .code) (h .round-trips .line) (keeps .so-far .rule6) (h .round-trips .reads)
 
   module _ (u : Side) (law : LawfulSide u) where
     gives-to : (h : RoundTripCode t (settings .fallback)) (rest : List ℕ)

@@ -1,4 +1,4 @@
--- Chains of tests: `a implies b` that fails, `if a then false else b` that holds, `a or b` that fails.
+-- Chains of tests: `a implies b` that fails or holds, `if a then false else b` that holds, `a or b` that fails.
 use mathlib.Core.Path.{_≡_, refl}
 use mathlib.Core.Bool.{Bool, true, false}
 use Rattle.lists.specs.Pick.{pick}
@@ -15,6 +15,15 @@ implies-no-right false b e = absurd (clash refl e)
 
 pub implies-no : (a b : Bool) → a ≡ true → b ≡ false → pick a b true ≡ false
 implies-no a b p q = rw (p, q)
+
+-- and holds
+pub implies-right : (a b : Bool) → pick a b true ≡ true → a ≡ true → b ≡ true
+implies-right true b e p = e
+implies-right false b e p = absurd (clash p refl)
+
+pub implies-yes : (a b : Bool) → (a ≡ true → b ≡ true) → pick a b true ≡ true
+implies-yes true b f = f refl
+implies-yes false b f = refl
 
 -- and one that gives false where a test holds: none holds
 pub unless-left : (a b : Bool) → pick a false b ≡ true → a ≡ false

@@ -1,6 +1,6 @@
 -- Conjunctions of tests: regrouped, in another order, denied.
 -- and-assoc   brackets to the right           and-shift, and-shift-two   the last one, the last two first
--- and-pairs   four of six tests in pairs      and-last                   a test from behind into the middle
+-- and-pairs   four of six tests in pairs      and-last                   the last test joined to one in the middle
 -- not-and-four, not-and-three                 not all of four; not all of three, two of them denied
 use mathlib.Core.Path.{_≡_, refl, sym, ap, _∙_}
 use mathlib.Core.Bool.{Bool, true, false}
@@ -27,15 +27,21 @@ and-pairs a b c d e z =
     (sym (and-assoc b c (pick d (pick e z false) false))
     ∙ ap (λ (t : Bool). pick (pick b c false) t false) (sym (and-assoc d e z)))
 
-pub and-last : (a b c d r l z : Bool)
+and-into : (a b c d r l z : Bool)
     → pick (pick a (pick b (pick c (pick d (pick r z false) false) false) false) false) l false
     ≡ pick a (pick b (pick c (pick d (pick (pick r l false) z false) false) false) false) false
-and-last true true true true true l z = and-comm z l
-and-last true true true true false l z = refl
-and-last true true true false r l z = refl
-and-last true true false d r l z = refl
-and-last true false c d r l z = refl
-and-last false b c d r l z = refl
+and-into true true true true true l z = and-comm z l
+and-into true true true true false l z = refl
+and-into true true true false r l z = refl
+and-into true true false d r l z = refl
+and-into true false c d r l z = refl
+and-into false b c d r l z = refl
+
+pub and-last : (a b c d r l z m : Bool) → pick r l false ≡ m
+    → pick (pick a (pick b (pick c (pick d (pick r z false) false) false) false) false) l false
+    ≡ pick a (pick b (pick c (pick d (pick m z false) false) false) false) false
+and-last a b c d r l z m e =
+    and-into a b c d r l z ∙ ap (λ (t : Bool). pick a (pick b (pick c (pick d (pick t z false) false) false) false) false) e
 
 pub not-and-four : (p q r s : Bool)
     → pick (pick p (pick q (pick r s false) false) false) false true

@@ -1,9 +1,12 @@
--- Two members of a list: they are the same, or one comes first; and a test that at most one passes.
-use mathlib.Core.Path.{_≡_, sym, subst, _∙_}
-use mathlib.Core.Bool.{Bool, true}
+-- Two members of a list: they are the same, or one comes first; a test that at most one passes; neighbours under two
+-- relations (rises-and).
+use mathlib.Core.Path.{_≡_, refl, sym, ap, subst, _∙_}
+use mathlib.Core.Bool.{Bool, true, false}
 use mathlib.Core.Logic.{_⊎_, inl, inr}
 use mathlib.Core.List.{List, [], _∷_}
-use Rattle.lists.specs.Order.{Pairs, In}
+use Rattle.lists.specs.Pick.{pick}
+use Rattle.lists.specs.Order.{Pairs, In, risesFrom, rises}
+use Rattle.lists.proofs.Choice.{and-interchange}
 use Rattle.lists.proofs.Order.{All-In⁻}
 
 Pairs-cases : {A : Type 0} (R : A → A → Type 0) (x y : A) (l : List A) → Pairs R l → In x l → In y l
@@ -26,3 +29,18 @@ Pairs-unique f R n l h x y i j p q = go (Pairs-cases R x y l h i j)
     go (inl e) = e
     go (inr (inl r)) = absurd (n x y p q r)
     go (inr (inr r)) = absurd (n y x q p r)
+
+-- neighbours under two relations at once
+module _ {A : Type 0} (f g : A → A → Bool) where
+  risesFrom-and : (x : A) (l : List A)
+      → risesFrom (λ a b. pick (f a b) (g a b) false) x l ≡ pick (risesFrom f x l) (risesFrom g x l) false
+  unfolding risesFrom
+  risesFrom-and x [] = refl
+  risesFrom-and x (y ∷ l) =
+      ap (λ (t : Bool). pick (pick (f x y) (g x y) false) t false) (risesFrom-and y l)
+      ∙ and-interchange (f x y) (g x y) (risesFrom f y l) (risesFrom g y l)
+
+  pub rises-and : (l : List A) → rises (λ a b. pick (f a b) (g a b) false) l ≡ pick (rises f l) (rises g l) false
+  unfolding rises
+  rises-and [] = refl
+  rises-and (x ∷ l) = risesFrom-and x l

@@ -12,7 +12,7 @@ use borrow.Fn.Kinds.{Out}
 use Rattle.lists.specs.Order.{All}
 use Rattle.lists.proofs.Cases.{pick-yes, pick-no}
 use Rattle.unicode.specs.Utf32.{markIn, markAt}
-use Rattle.unicode.specs.Scheme.{orderedBy}
+use Rattle.unicode.specs.Scheme.{orderedBy, sideOf}
 use Rattle.unicode.specs.declared.utf32.ByteOrder.{ByteOrder}
 use Rattle.unicode.specs.declared.utf32.ByteOrder.the-variants.{Big, Little}
 use Rattle.unicode.specs.declared.utf32.Mark.{Mark}
@@ -28,8 +28,8 @@ use Rattle.table.specs.Slices.{Slices}
 use Rattle.table.specs.Load.{loadedBy, given, leftIn}
 use Rattle.table.specs.Valid.{valid}
 use Rattle.table.specs.declared.valid.Record.{Record}
-use Rattle.convert.specs.Run.{Run, after, endedWith}
-use Rattle.convert.specs.Step.{strict}
+use Rattle.convert.specs.Run.{Run, give, after, endedWith}
+use Rattle.convert.specs.Step.{code, writes, strict, toStep}
 use Rattle.convert.specs.Convert.{markOf, fromSide, toRun, fromRun, toTested, fromTested}
 use Rattle.convert.specs.Claims.{WellFormedText, pointsIn, allRead, ReadsAs, ReadsAsFirst, RoundTripCode, frameOf, RoundTrips}
 use Rattle.convert.specs.loops.Laws.{NotFull}
@@ -42,6 +42,7 @@ use Rattle.convert.proofs.Schemes.{mark-chooses, mark-none}
 use Rattle.convert.proofs.SchemeText.{to-more-room, from-more-room, text-so-far, text-whole, well-formed-in, textOf as spelt, there-in, back-in, round-trip-runs}
 use Rattle.convert.proofs.SchemeText as scheme
 use Rattle.convert.proofs.LoadedText.{to-loaded, from-loaded}
+use Rattle.convert.proofs.ReadsBack as back
 use Rattle.promises.specs.Calls.{LoadCall, textOf, lentTo, AcceptedAs, ConversionCall, ToCall, FromCall, recordGiven, slicesGiven, inputOf, outputLent, outputAfter, settingsOf, schemeOf, writtenBy}
 use Rattle.promises.specs.Words.{AnswersBy, OnLoaded}
 use Rattle.promises.proofs.LoadCalls.{as-read, of-call, leaves-form}
@@ -118,22 +119,29 @@ module _ (l : LoadCall) (t : Table) (a : AcceptedAs l t) where
       on-loaded (λ e rec m. fromTested e limits rec m) from-answers l (λ e. fromRun e t)
       (λ e. from-loaded (textOf l) (lentTo l) t (as-read l t a) e)
 
+  pub written-reads : (fallback : Bool) (u : ℕ) (c : List ℕ) → writes t fallback u ≡ code c
+      → (v : ℕ) × ((e : Scheme) (settings : Settings) (rest : List ℕ) → toStep (sideOf e) t settings 0 (c ++ rest) ≡ give (sideOf e .encode v) (length c) 0)
+  written-reads fallback u c q =
+      let f = leaves-form l t a in
+      let (v, r) = back.written-reads limits t (f .0) (f .1) fallback u c q in
+      (v, λ e settings rest. r (sideOf e) settings rest)
+
   pub writes-text : (c : ToCall) → OnLoaded l c → WellFormedText (schemeOf c) (writtenBy c)
   writes-text c o =
       subst (WellFormedText (schemeOf c)) (sym (wrote c _ (to-by-text c o)))
-      (well-formed-in (schemeOf c) t (settingsOf c) (leaves-form l t a .1 .rule6) (inputOf c) (length (outputLent c)))
+      (well-formed-in (schemeOf c) t (settingsOf c) (leaves-form l t a .1 .so-far .rule6) (inputOf c) (length (outputLent c)))
 
   pub reads-back : (c : ToCall) → OnLoaded l c → ReadsAsFirst (schemeOf c) (writtenBy c) (pointsIn t (settingsOf c) (inputOf c))
   reads-back c o =
       subst (λ (x : List ℕ). ReadsAsFirst (schemeOf c) x (pointsIn t (settingsOf c) (inputOf c))) (sym (wrote c _ (to-by-text c o)))
-      (text-so-far (schemeOf c) t (settingsOf c) (leaves-form l t a .1 .rule6) (inputOf c) (length (outputLent c)))
+      (text-so-far (schemeOf c) t (settingsOf c) (leaves-form l t a .1 .so-far .rule6) (inputOf c) (length (outputLent c)))
 
   pub reads-back-whole : (c : ToCall) → OnLoaded l c → (c .result .end ≡ OutputFull → ⊥)
       → ReadsAs (schemeOf c) (writtenBy c) (pointsIn t (settingsOf c) (inputOf c))
   reads-back-whole c o f =
       let r = to-by-text c o in
       subst (λ (x : List ℕ). ReadsAs (schemeOf c) x (pointsIn t (settingsOf c) (inputOf c))) (sym (wrote c _ r))
-      (text-whole (schemeOf c) t (settingsOf c) (leaves-form l t a .1 .rule6) (inputOf c) (length (outputLent c)) (λ z. f (ended c _ r ∙ z)))
+      (text-whole (schemeOf c) t (settingsOf c) (leaves-form l t a .1 .so-far .rule6) (inputOf c) (length (outputLent c)) (λ z. f (ended c _ r ∙ z)))
 
   pub room-enough : (c : ToCall) → OnLoaded l c → length (markOf (schemeOf c)) + 4 * length (inputOf c) ≤ length (outputLent c) → c .result .end ≡ OutputFull → ⊥
   room-enough c o h f =

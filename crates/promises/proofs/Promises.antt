@@ -94,6 +94,7 @@ demand2 =
       valid-exactly = valid-exactly;
       to-by-text = conversions.to-by-text;
       from-by-text = conversions.from-by-text;
+      written-reads = conversions.written-reads;
       utf8-decodes = decodes-well-formed;
       utf8-encodes = utf8-encode-decode;
       utf8-cut-short = cut-short-begins;

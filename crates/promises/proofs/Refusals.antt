@@ -63,7 +63,7 @@ unfolding mappingConditions
 mapping-ten lim h rows ls noForm = behind-ten false noForm
 mapping-ten lim h rows ls reserved = behind-ten false reserved
 mapping-ten lim h rows ls blank = behind-ten false blank
-mapping-ten lim h rows ls ending = behind-ten false ending
+mapping-ten lim h rows ls ending = (omega arith, tt)
 mapping-ten lim h rows ls (mapping u c d) =
     (omega arith, (omega arith, (omega arith, (omega arith, (omega arith, (omega arith, (omega arith, tt)))))))
 

@@ -38,7 +38,7 @@ use Rattle.table.specs.TableK.{kText}
 use Rattle.table.specs.declared.load.Answer.the-variants.{Accepted, Refused}
 use Rattle.table.specs.declared.load.Refusal.{Refusal}
 use Rattle.table.specs.declared.load.Refusal.the-variants as refusal
-use Rattle.convert.specs.Run.{stop, after, endedWith, endNumber, endLength}
+use Rattle.convert.specs.Run.{give, stop, after, endedWith, endNumber, endLength}
 use Rattle.convert.specs.Step.{code, writes, strict, withSkip, toStep, fromStep}
 use Rattle.convert.specs.Convert.{markOf, toSide, fromSide, toRun, fromRun, toTested, fromTested}
 use Rattle.convert.specs.Claims.{WellFormedText, pointsIn, ReadsAs, ReadsAsFirst}
@@ -151,7 +151,7 @@ pub record Demand1 : Type 2 where
 -- DEMAND 2: accepted exactly when the rules are kept; conversion by the table, in UTF-8 (RFC 3629) or UTF-32 (source
 -- document 002)
 pub record Demand2 : Type 1 where
-  -- a text that may be loaded is accepted exactly when it is of the grammar and its rows and lines keep T1 to T9
+  -- a text that may be loaded is accepted exactly when it is of the grammar and its rows and lines keep T1 to T10
   pub accepted-exactly : (c : LoadCall) → MayLoad c
       → (c .result .answer ≡ Accepted) ↔ ((t : Table) × TableText (textOf c) t × Keeps limits t)
   -- an accepted text is of the grammar, and it writes one table
@@ -175,6 +175,12 @@ pub record Demand2 : Type 1 where
       → AnswersBy (toRun (schemeOf c) t (settingsOf c) (inputOf c) (length (outputLent c))) c
   pub from-by-text : (l : LoadCall) (t : Table) → AcceptedAs l t → (c : FromCall) → OnLoaded l c
       → AnswersBy (fromRun (schemeOf c) t (settingsOf c) (inputOf c) (length (outputLent c))) c
+  -- what is written reads (T10): the code that a code point is written as reads as some code point, in every scheme and
+  -- setting, whatever stands behind it
+  pub written-reads : (l : LoadCall) (t : Table) → AcceptedAs l t → (fallback : Bool) (u : ℕ) (c : List ℕ)
+      → writes t fallback u ≡ code c
+      → (v : ℕ) × ((e : Scheme) (settings : Settings) (rest : List ℕ)
+      → toStep (sideOf e) t settings 0 (c ++ rest) ≡ give (sideOf e .encode v) (length c) 0)
   -- UTF-8 is RFC 3629's: what decodes is a well-formed sequence and its value, the encoding of a scalar value decodes,
   -- 51 is a proper beginning
   pub utf8-decodes : (s : List ℕ) (c n : ℕ) → (decodeOne s ≡ sequence.Scalar c n) ↔ StartsWith s c n

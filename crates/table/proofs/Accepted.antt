@@ -1,4 +1,4 @@
--- A text is accepted exactly when it has the grammar's form and the table that it writes keeps T1 to T9.
+-- A text is accepted exactly when it has the grammar's form and the table that it writes keeps T1 to T10.
 -- That these texts are just those of specs/Grammar.antt, and so `accepted-exactly`, is in TextRead.antt.
 use Prim.Native.Nat.{ℕ, _+_, _≤_}
 use mathlib.Core.Path.{_≡_, refl, sym, ap, subst, _∙_}

@@ -29,7 +29,7 @@ record-counts t = refl
 
 -- of an accepted text there are no more than the limit
 pub mappings-few : (lim : Limits) (text : List ℕ) (t : Table) → 1 ≤ lim .rows → loadOf lim text ≡ accepted t → length (t .lines) ≤ lim .mappings
-mappings-few lim text t some e = leb-true (length (t .lines)) (lim .mappings) (accepted-keeps-rules lim text t some e .rule1-lines)
+mappings-few lim text t some e = leb-true (length (t .lines)) (lim .mappings) (accepted-keeps-rules lim text t some e .so-far .rule1-lines)
 
 lines-few : (s : List ℕ) → length (linesOf s) ≤ length s
 unfolding linesOf
@@ -49,7 +49,7 @@ refused-within lim text why k e = go (first-line-lowest lim text why k e)
     go (inr n) = omega (arith, n .counted, lines-few text)
 
 -- every number has at most two digits
-pub numbers-few : (why : Refusal) → refusalNumber why ≤ 27
+pub numbers-few : (why : Refusal) → refusalNumber why ≤ 28
 numbers-few refusal.MemoryTooSmall = omega arith
 numbers-few refusal.TextTooLong = omega arith
 numbers-few refusal.NoForm = omega arith
@@ -67,3 +67,4 @@ numbers-few refusal.BytesTaken = omega arith
 numbers-few refusal.PointTaken = omega arith
 numbers-few refusal.TooMany = omega arith
 numbers-few refusal.NoEnd = omega arith
+numbers-few refusal.NotReadBack = omega arith

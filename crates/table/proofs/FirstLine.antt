@@ -85,7 +85,7 @@ module _ (lim : Limits) where
   mapping-line-rises h rows ls noForm = form-rises false noForm
   mapping-line-rises h rows ls reserved = form-rises false reserved
   mapping-line-rises h rows ls blank = form-rises false blank
-  mapping-line-rises h rows ls ending = form-rises false ending
+  mapping-line-rises h rows ls ending = (tt, tt)
   mapping-line-rises h rows ls (mapping u c d) = mapping-rises lim h rows ls (lineAs u c d)
 
   phase-rises : (p : Phase) (h : Keys) (rows : List (List Cell)) (ls : List Line) (s : List ℕ)

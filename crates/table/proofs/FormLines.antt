@@ -68,15 +68,15 @@ pub keeps-good : (lim : Limits) (t : Table) → Proper t → Keeps lim t → All
 keeps-good lim t p k =
     All-In⁺ (t .lines) (λ l i.
     let proper = All-In⁻ ProperLine l (t .lines) (p .lines-proper) i in
-    let n = line-length (stepsOf t) (t .min) (t .max) (t .subchar1) l (proper .digit) (k .rule1-sizes)
+    let n = line-length (stepsOf t) (t .min) (t .max) (t .subchar1) l (proper .digit) (k .so-far .rule1-sizes)
     (All-In⁻ (λ x. t5 (stepsOf t) (t .min) (t .max) x ≡ true) l (t .lines)
-    (all-true (t5 (stepsOf t) (t .min) (t .max)) (t .lines) (k .rule5)) i)
-    (All-In⁻ (λ x. t8 (t .subchar1) x ≡ true) l (t .lines) (all-true (t8 (t .subchar1)) (t .lines) (k .rule8)) i) in
+    (all-true (t5 (stepsOf t) (t .min) (t .max)) (t .lines) (k .so-far .rule5)) i)
+    (All-In⁻ (λ x. t8 (t .subchar1) x ≡ true) l (t .lines) (all-true (t8 (t .subchar1)) (t .lines) (k .so-far .rule8)) i) in
     record {
       proper = proper;
       some-bytes = n .0;
       few-bytes = n .1;
-      scalar = All-In⁻ (λ x. t6 x ≡ true) l (t .lines) (all-true t6 (t .lines) (k .rule6)) i;
+      scalar = All-In⁻ (λ x. t6 x ≡ true) l (t .lines) (all-true t6 (t .lines) (k .so-far .rule6)) i;
     })
 
 -- what a memory in a table's form holds
@@ -86,7 +86,7 @@ module _ (lim : Limits) (t : Table) (p : Proper t) (k : Keeps lim t) (rec : Reco
   good = keeps-good lim t p k
 
   pub lines-apart : AllApart (map storedOf (t .lines))
-  lines-apart = t9⇒AllApart (t .lines) good (k .rule9)
+  lines-apart = t9⇒AllApart (t .lines) good (k .so-far .rule9)
 
   pub form-count : length (sorted (t .lines)) ≡ rec .mappings
   unfolding recordOf

@@ -1,6 +1,6 @@
 -- From the form to the test: the form of a table that keeps the rules passes every part of it (form-tested).
 -- code-length, sub-length: a code of a table that keeps the rules has 1 to 4 bytes. flat-taken: its states are the numbers of its rows.
-use mathlib.Core.Path.{_≡_, refl, sym, _∙_, subst}
+use mathlib.Core.Path.{_≡_, refl, sym, ap, _∙_, subst}
 use mathlib.Core.Bool.{true}
 use mathlib.Core.Option.{Option}
 use mathlib.Core.List.{List, [], _∷_, map}
@@ -15,10 +15,10 @@ use Rattle.table.specs.Limits.{Limits, needed}
 use Rattle.table.specs.States.{Rows, stepAt, endKind, isCode}
 use Rattle.table.specs.Codes.{bytesOf, packed}
 use Rattle.table.specs.Meaning.{Line, Table, flat, stepsOf}
-use Rattle.table.specs.Rules.{Keeps, t1Rows, t1Lines, t1Sizes, t3, t4Sub, t4Sub1, t5, t6, t7, t8}
+use Rattle.table.specs.Rules.{Keeps, t1Rows, t1Lines, t1Sizes, t3, t4Sub, t4Sub1, t5, t6, t7, t8, t10}
 use Rattle.table.specs.Stored.{Stored, padded, storedOf, lineIn, less}
 use Rattle.table.specs.Slices.{Slices}
-use Rattle.table.specs.Memory.{sorted, numbersOf, sub1Of, sub1In, recordOf, Form, Proper}
+use Rattle.table.specs.Memory.{sorted, numbersOf, sub1Of, sub1In, recordOf, Form, Proper, linesIn}
 use Rattle.table.specs.loops.Progress.{GoodLine}
 use Rattle.table.specs.Valid.{stateOk, statesOk, recordOk, lineOk}
 use Rattle.table.specs.declared.valid.Record.{Record}
@@ -31,6 +31,7 @@ use Rattle.table.proofs.Sorted.{form-store}
 use Rattle.table.proofs.StoredLine.{line-stored, stored-of-ok}
 use Rattle.table.proofs.FormLines.{keeps-good, form-kept, entries-Form}
 use Rattle.table.proofs.TestParts.{kept-line, Tested}
+use Rattle.table.proofs.ReadBack.{t10-sorted}
 use Rattle.table.proofs.NumbersBack.{sub1In-sub1Of}
 use Rattle.lists.specs.Tests.{allOf}
 
@@ -53,8 +54,8 @@ module _ (lim : Limits) (t : Table) (p : Proper t) (k : Keeps lim t) (rec : Reco
 
   rows-few : (1 ≤ length (t .rows)) × (length (t .rows) ≤ lim .rows)
   rows-few = (
-    leb-true 1 (length (t .rows)) (and-left (leb 1 (length (t .rows))) _ (k .rule1-rows)),
-    leb-true (length (t .rows)) (lim .rows) (and-right (leb 1 (length (t .rows))) _ (k .rule1-rows)),
+    leb-true 1 (length (t .rows)) (and-left (leb 1 (length (t .rows))) _ (k .so-far .rule1-rows)),
+    leb-true (length (t .rows)) (lim .rows) (and-right (leb 1 (length (t .rows))) _ (k .so-far .rule1-rows)),
   )
 
   flat-length : length storedLists ≡ length (t .rows) * 256
@@ -72,15 +73,15 @@ module _ (lim : Limits) (t : Table) (p : Proper t) (k : Keeps lim t) (rec : Reco
 
   pub sub-length : (1 ≤ length (t .subchar)) × (length (t .subchar) ≤ 4)
   sub-length =
-      let c = code-length (stepsOf t) (t .subchar) (k .rule4-sub) in
+      let c = code-length (stepsOf t) (t .subchar) (k .so-far .rule4-sub) in
       (c .1, kept-short lim t k (t .subchar) (p .sub-bytes) (c .0))
 
   record-passes : recordOk lim (recordOf t) ≡ true
   unfolding recordOk recordOf
   record-passes =
-      and-yes (t1Rows lim (length (t .rows))) _ (k .rule1-rows)
-      (and-yes (t1Lines lim (length (t .lines))) _ (k .rule1-lines)
-      (and-yes (t1Sizes (t .min) (t .max)) _ (k .rule1-sizes)
+      and-yes (t1Rows lim (length (t .rows))) _ (k .so-far .rule1-rows)
+      (and-yes (t1Lines lim (length (t .lines))) _ (k .so-far .rule1-lines)
+      (and-yes (t1Sizes (t .min) (t .max)) _ (k .so-far .rule1-sizes)
       (and-yes (padded (length (t .subchar)) (packed (t .subchar))) _
       (packed-padded (t .subchar) (p .sub-bytes) (sub-length .0) (sub-length .1))
       (le-leb (sub1Of (t .subchar1)) 256 (let h = p .sub1-byte in omega arith)))))
@@ -93,7 +94,7 @@ module _ (lim : Limits) (t : Table) (p : Proper t) (k : Keeps lim t) (rec : Reco
       (filled-long (needed lim) (lent .states) storedLists (omega (arith, flat-length, flat-fits)) (f .states-are)))
       (and-yes (allOf (stateOk (length (t .rows))) (take (length (t .rows) * 256) (lent .states))) _
       (subst (λ (l : List ℕ). allOf (stateOk (length (t .rows))) l ≡ true) (sym flat-taken)
-      (allOf-stateOk (length (t .rows)) (flat (t .rows)) ∙ k .rule2))
+      (allOf-stateOk (length (t .rows)) (flat (t .rows)) ∙ k .so-far .rule2))
       (filled-zeros (needed lim) (length (t .rows) * 256) (lent .states) storedLists flat-length (f .states-are)))
 
   line-passes : (l : Line)
@@ -123,19 +124,25 @@ module _ (lim : Limits) (t : Table) (p : Proper t) (k : Keeps lim t) (rec : Reco
       (All-map⁺ storedOf (λ e. lineOk (stepsOf t) (recordOf t) e ≡ true) (t .lines)
       (All-In⁺ (t .lines) (λ l i. line-passes l (All-In⁻ GoodLine l (t .lines) good i)
       (All-In⁻ (λ x. t5 (stepsOf t) (t .min) (t .max) x ≡ true) l (t .lines)
-      (all-true (t5 (stepsOf t) (t .min) (t .max)) (t .lines) (k .rule5)) i)
-      (All-In⁻ (λ x. t7 x ≡ true) l (t .lines) (all-true t7 (t .lines) (k .rule7)) i)
-      (All-In⁻ (λ x. t8 (t .subchar1) x ≡ true) l (t .lines) (all-true (t8 (t .subchar1)) (t .lines) (k .rule8)) i)))))
+      (all-true (t5 (stepsOf t) (t .min) (t .max)) (t .lines) (k .so-far .rule5)) i)
+      (All-In⁻ (λ x. t7 x ≡ true) l (t .lines) (all-true t7 (t .lines) (k .so-far .rule7)) i)
+      (All-In⁻ (λ x. t8 (t .subchar1) x ≡ true) l (t .lines) (all-true (t8 (t .subchar1)) (t .lines) (k .so-far .rule8)) i)))))
+
+  back-passes : t10 (linesIn rec (lent .codes) (lent .infos)) ≡ true
+  unfolding linesIn
+  back-passes =
+      ap (λ (l : List Stored). t10 (map lineIn l)) (entries-Form lim t p k rec lent f)
+      ∙ t10-sorted (t .lines) (keeps-good lim t p k) ∙ k .rule10
 
   sub-passes : t4Sub (stepsOf t) (bytesOf (recordOf t .subchar)) ≡ true
   unfolding recordOf
   sub-passes =
       subst (λ (c : List ℕ). t4Sub (stepsOf t) c ≡ true) (sym (unpacked-packed (t .subchar) (p .sub-bytes) (sub-length .1)))
-      (k .rule4-sub)
+      (k .so-far .rule4-sub)
 
   sub1-passes : t4Sub1 (stepsOf t) (sub1In (recordOf t .subchar1)) ≡ true
   unfolding recordOf
-  sub1-passes = subst (λ (o : Option ℕ). t4Sub1 (stepsOf t) o ≡ true) (sym (sub1In-sub1Of (t .subchar1))) (k .rule4-sub1)
+  sub1-passes = subst (λ (o : Option ℕ). t4Sub1 (stepsOf t) o ≡ true) (sym (sub1In-sub1Of (t .subchar1))) (k .so-far .rule4-sub1)
 
   rows-number : recordOf t .rows ≡ length (t .rows)
   unfolding recordOf
@@ -157,7 +164,7 @@ module _ (lim : Limits) (t : Table) (p : Proper t) (k : Keeps lim t) (rec : Reco
         deep =
             subst (λ (x : Record). t3 (stepAt (take (needed lim) (lent .states))) (x .max) ≡ true) (sym r)
             (subst (λ (m : ℕ). t3 (stepAt (take (needed lim) (lent .states))) m ≡ true) (sym max-number)
-            (subst (λ (x : Rows). t3 x (t .max) ≡ true) s (k .rule3)));
+            (subst (λ (x : Rows). t3 x (t .max) ≡ true) s (k .so-far .rule3)));
         sub =
             subst (λ (x : Record). t4Sub (stepAt (take (needed lim) (lent .states))) (bytesOf (x .subchar)) ≡ true)
             (sym r) (subst (λ (x : Rows). t4Sub x (bytesOf (recordOf t .subchar)) ≡ true) s sub-passes);
@@ -167,6 +174,7 @@ module _ (lim : Limits) (t : Table) (p : Proper t) (k : Keeps lim t) (rec : Reco
         store-ok =
             form-store (lim .mappings) (rec .mappings) (lent .codes) (lent .infos) (lent .order)
             (form-kept lim t p k rec lent f);
+        read-back = back-passes;
         lines-ok =
             subst (λ (l : List Stored). allOf (lineOk (stepAt (take (needed lim) (lent .states))) rec) l ≡ true)
             (sym (entries-Form lim t p k rec lent f))

@@ -10,20 +10,20 @@ use Rattle.lists.proofs.Laws.{and-yes}
 use Rattle.table.specs.Limits.{Limits}
 use Rattle.table.specs.Cells.{Cell}
 use Rattle.table.specs.Meaning.{Line, flat, stepsOn}
-use Rattle.table.specs.Rules.{t2, t3, t4Sub, Keeps}
+use Rattle.table.specs.Rules.{t2, t3, t4Sub, KeepsSoFar, Keeps}
 use Rattle.table.specs.Keys.{Keys, minOf, maxOf, subcharOf}
 use Rattle.table.specs.Header.{headerLineOf}
 use Rattle.table.specs.Mapping.{BodyLine, noForm, reserved, blank, ending, mapping, bodyLineOf, afterEndOf}
-use Rattle.table.specs.Numbers.{Cond, lowest, inForm, n16, rowsAt, keyConditions, charmapConditions, mappingConditions}
+use Rattle.table.specs.Numbers.{Cond, lowest, inForm, n16, rowsAt, keyConditions, charmapConditions, mappingConditions, endConditions}
 use Rattle.table.specs.Load.{Reading, goesOn, judged, lineAs, headerAsks, mappingAsks, lastAsks, phaseAsks, lineAsks, lineStep}
 use Rattle.table.specs.declared.header.HeaderLine.the-variants as header
 use Rattle.table.specs.declared.load.Verdict.{Verdict}
 use Rattle.table.specs.declared.load.Verdict.the-variants.{Fine}
 use Rattle.table.specs.declared.load.Phase.{Phase}
 use Rattle.table.specs.declared.load.Phase.the-variants.{Header, Mappings, Ended}
-use Rattle.table.proofs.KeptSizes.{kept-sizes}
+use Rattle.table.proofs.KeptSizes.{t1Sizes⇒Sizes}
 use Rattle.table.proofs.LowestLaws.{lowest-fine, fine-lowest, none-in-form}
-use Rattle.table.proofs.Judged.{judged-goes-on, tableWith, Keeps-∷⁻}
+use Rattle.table.proofs.Judged.{judged-goes-on, tableWith, KeepsSoFar-∷⁻, Keeps⇒end}
 use Rattle.table.specs.declared.header.HeaderLine.{HeaderLine}
 use Rattle.table.specs.declared.value.Key.{Key}
 use Rattle.table.specs.declared.value.Value.{Value}
@@ -38,10 +38,10 @@ pass-form cs r q e = let j = judged-goes-on (lowest cs) r q e in fine-goes-on (i
 pub step-in-grammar : (lim : Limits) (r : Reading) (s : List ℕ) (q : Reading) → lineStep lowest lim r s ≡ goesOn q → lineStep inForm lim r s ≡ goesOn q
 step-in-grammar lim r s q e = let a = lineAsks lim r s in pass-form (a .conditions) (a .behind) q e
 
--- from CHARMAP on, rows and lines so far keep the rules
+-- from CHARMAP on, rows and lines so far keep the rules that are asked line by line, and behind END CHARMAP all
 abbrev pub KeptAt : Limits → Phase → Keys → List (List Cell) → List Line → Type 0
 KeptAt lim Header h rows ls = Unit {0}
-KeptAt lim Mappings h rows ls = Keeps lim (tableWith h rows ls)
+KeptAt lim Mappings h rows ls = KeepsSoFar lim (tableWith h rows ls)
 KeptAt lim Ended h rows ls = Keeps lim (tableWith h rows ls)
 
 abbrev pub Keeping : Limits → Reading → Type 0
@@ -53,11 +53,11 @@ unfolding inForm lowest keyConditions
 key-form lim h n k v = refl
 
 -- T2, T3, T4 and the order of the sizes are 16 at CHARMAP
-charmap-kept : (lim : Limits) (h : Keys) (rows : List (List Cell)) → Keeps lim (tableWith h rows []) → n16 h rows ≡ false
+charmap-kept : (lim : Limits) (h : Keys) (rows : List (List Cell)) → KeepsSoFar lim (tableWith h rows []) → n16 h rows ≡ false
 unfolding n16
 charmap-kept lim h rows k =
     ap not
-    (and-yes (leb (minOf h) (maxOf h)) _ (le-leb (minOf h) (maxOf h) (kept-sizes lim _ k .ordered))
+    (and-yes (leb (minOf h) (maxOf h)) _ (le-leb (minOf h) (maxOf h) (t1Sizes⇒Sizes _ _ (k .rule1-sizes) .ordered))
     (and-yes (t2 (length rows) (flat rows)) _ (k .rule2)
     (and-yes (t3 (stepsOn rows) (maxOf h)) _ (k .rule3)
     (and-yes (t4Sub (stepsOn rows) (subcharOf h)) _ (k .rule4-sub) (k .rule4-sub1)))))
@@ -75,14 +75,14 @@ header-kept lim h rows s header.Charmap e k = charmap-fine h rows e (charmap-kep
 header-kept lim h rows s (header.Known x v a b) e k = sym (key-form lim h (length rows) x v) ∙ e
 
 mapping-back : (lim : Limits) (h : Keys) (rows : List (List Cell)) (ls : List Line) (x : BodyLine) → inForm (mappingAsks lim h rows ls x .conditions) ≡ Fine
-    → Keeping lim (mappingAsks lim h rows ls x .behind) → (lowest (mappingAsks lim h rows ls x .conditions) ≡ Fine) × Keeps lim (tableWith h rows ls)
+    → Keeping lim (mappingAsks lim h rows ls x .behind) → (lowest (mappingAsks lim h rows ls x .conditions) ≡ Fine) × KeepsSoFar lim (tableWith h rows ls)
 unfolding inForm lowest
 mapping-back lim h rows ls noForm e k = (e, k)
 mapping-back lim h rows ls reserved e k = (e, k)
 mapping-back lim h rows ls blank e k = (e, k)
-mapping-back lim h rows ls ending e k = (e, k)
+mapping-back lim h rows ls ending e k = (fine-lowest (endConditions ls) (Keeps⇒end lim h rows ls k, tt), k .so-far)
 mapping-back lim h rows ls (mapping u c d) e k =
-    let m = Keeps-∷⁻ lim h rows ls (lineAs u c d) k in (fine-lowest (mappingConditions lim h rows ls (lineAs u c d)) (m .1), m .0)
+    let m = KeepsSoFar-∷⁻ lim h rows ls (lineAs u c d) k in (fine-lowest (mappingConditions lim h rows ls (lineAs u c d)) (m .1), m .0)
 
 last-back : (lim : Limits) (h : Keys) (rows : List (List Cell)) (ls : List Line) (x : BodyLine) → inForm (lastAsks h rows ls x .conditions) ≡ Fine
     → Keeping lim (lastAsks h rows ls x .behind) → (lowest (lastAsks h rows ls x .conditions) ≡ Fine) × Keeps lim (tableWith h rows ls)

@@ -11,14 +11,14 @@ use Rattle.lists.specs.Pick.{pick}
 use Rattle.lists.specs.Order.{All, Pairs, In}
 use Rattle.lists.proofs.Laws.{clash, and-yes, and-left, and-right}
 use Rattle.lists.proofs.Chains.{unless-left, unless-right}
-use Rattle.lists.proofs.Order.{All-In⁻, All-×⁺, In-map⁺, In-map⁻, In-sort⁻, In-sort⁺, firstOf-unique}
+use Rattle.lists.proofs.Order.{All-×⁺, firstOf-unique}
 use Rattle.lists.proofs.Pairs.{Pairs-unique}
 use Rattle.table.specs.Limits.{Limits, needed}
 use Rattle.table.specs.Cells.{Cell, cellIn}
 use Rattle.table.specs.Codes.{bytesOf}
 use Rattle.table.specs.Meaning.{Line, Table, flat, isRead, decidesPoint, reader, writer}
 use Rattle.table.specs.Rules.{sharesBytes, sharesPoint, t9, Keeps}
-use Rattle.table.specs.Stored.{storedOf, lineIn, less}
+use Rattle.table.specs.Stored.{lineIn}
 use Rattle.table.specs.Slices.{Slices}
 use Rattle.table.specs.Memory.{sorted, numbersOf, sub1In, recordOf, pieces, tableIn, Form, Proper, linesIn}
 use Rattle.table.specs.declared.valid.Record.{Record}
@@ -26,7 +26,7 @@ use Rattle.table.proofs.CellLaws.{map-cellIn-cellNumber}
 use Rattle.table.proofs.Packing.{unpacked-packed}
 use Rattle.table.specs.loops.Progress.{GoodLine}
 use Rattle.table.proofs.FormLines.{keeps-good, entries-Form}
-use Rattle.table.proofs.StoredLine.{line-stored}
+use Rattle.table.proofs.ReadBack.{stored-there, stored-back}
 use Rattle.lists.proofs.Strings.{same⇒≡, same-refl}
 use Rattle.table.specs.Forms.{SameTable}
 use Rattle.table.proofs.FormTested.{sub-length}
@@ -55,18 +55,6 @@ pieces-filled limit rows l h e =
     let cells : map cellIn l ≡ flat rows ++ map cellIn rest =
     ap (map cellIn) whole ∙ map-append cellIn (numbersOf rows) rest ∙ ap (λ (x : List Cell). x ++ map cellIn rest) (map-cellIn-cellNumber (flat rows)) in
     ap (pieces (length rows)) cells ∙ pieces-flat rows (map cellIn rest) h
-
--- lines stored and taken out again
-stored-there : (ls : List Line) → All GoodLine ls → (l : Line) → In l (map lineIn (sorted ls)) → In l ls
-stored-there ls gs l i =
-    let a = In-map⁻ lineIn l (sorted ls) i in
-    let b = In-map⁻ storedOf (a .0) ls (In-sort⁻ less (a .0) (map storedOf ls) (a .1 .0)) in
-    subst (λ (x : Line). In x ls) (sym (a .1 .1 ∙ ap lineIn (b .1 .1) ∙ line-stored (b .0) (All-In⁻ GoodLine (b .0) ls gs (b .1 .0)))) (b .1 .0)
-
-stored-back : (ls : List Line) → All GoodLine ls → (l : Line) → In l ls → In l (map lineIn (sorted ls))
-stored-back ls gs l i =
-    subst (λ (x : Line). In x (map lineIn (sorted ls))) (line-stored l (All-In⁻ GoodLine l ls gs i))
-    (In-map⁺ lineIn (storedOf l) (sorted ls) (In-sort⁺ less (storedOf l) (map storedOf ls) (In-map⁺ storedOf l ls i)))
 
 -- a memory in the form of t holds a table of the same meaning
 module _ (lim : Limits) (t : Table) (p : Proper t) (k : Keeps lim t) (rec : Record) (m : Slices) (f : Form lim t rec m) where

@@ -1,4 +1,5 @@
--- One line of a text, judged fine: what the lines so far have given keeps its ranges before CHARMAP, and T1 to T9 from there on.
+-- One line of a text, judged fine: what the lines so far have given keeps its ranges before CHARMAP, T1 to T9 from there on, and T10 behind
+-- END CHARMAP.
 use Prim.Native.Nat.{ℕ, suc, _+_, _-_, _<_, _≤_}
 use mathlib.Core.Path.{_≡_, refl, ap, subst, sym, _∙_}
 use mathlib.Core.Option.{Option}
@@ -18,7 +19,7 @@ use Rattle.table.specs.Limits.{Limits}
 use Rattle.table.specs.Cells.{Cell, ends}
 use Rattle.table.specs.Codes.{AllByte}
 use Rattle.table.specs.Meaning.{Line, Table, flat, stepsOn}
-use Rattle.table.specs.Rules.{t1Rows, t2, t3, t4Sub, t5, t6, t7, t8, t9, sharesBytes, sharesPoint, Keeps}
+use Rattle.table.specs.Rules.{t1Rows, t2, t3, t4Sub, t5, t6, t7, t8, t9, t10, sharesBytes, sharesPoint, KeepsSoFar, Keeps}
 use Rattle.lists.specs.Tests.{allOf, anyOf}
 use Rattle.table.specs.Memory.{sub1Of, Proper, ProperLine}
 use Rattle.table.specs.Keys.{Keys, isSbcs, minOf, maxOf, subcharOf}
@@ -27,7 +28,7 @@ use Rattle.table.specs.Text.{skipAt, endsAt, byteOf, isCharmap, contentE
 use Rattle.table.specs.Row.{entriesOf, rowOf}
 use Rattle.table.specs.Header.{isRow, keyLine, keyedLine, keyEnd, keyOf, headerLineAt, headerLineOf}
 use Rattle.table.specs.Mapping.{BodyLine, noForm, reserved, blank, ending, mapping, bodyLineOf, afterEndOf}
-use Rattle.table.specs.Numbers.{lowest, n13, n15, rowOver, n16, n20, n21, n22, n23, n24, n25, n26, rowsAt, keyConditions, charmapConditions, mappingConditions, nothingAbsent, keepsStates}
+use Rattle.table.specs.Numbers.{lowest, n13, n15, rowOver, n16, n20, n21, n22, n23, n24, n25, n26, n28, rowsAt, keyConditions, charmapConditions, mappingConditions, nothingAbsent, keepsStates}
 use Rattle.table.specs.Load.{Reading, goesOn, stop, judged, keepValue, keepRow, lineAs, headerAsks, mappingAsks, lastAsks, phaseAsks, lineAsks, lineStep}
 use Rattle.table.specs.FirstLine.{NoneHolds}
 use Rattle.table.specs.declared.text.Place.{Place}
@@ -137,9 +138,12 @@ keep-fits lim h rows v (Row w l o) i e f = row-fits lim h rows v o e f
 abbrev pub tableWith : Keys → List (List Cell) → List Line → Table
 tableWith h rows ls = record { rows = rows; lines = ls; min = minOf h; max = maxOf h; subchar = subcharOf h; subchar1 = h .subchar1 }
 
--- a table as a text can give it, that keeps the rules where the limit allows a row
+-- a table as a text can give it, that keeps the rules where the limit allows a row: those asked so far, or all
+abbrev pub SoundBy : (Limits → Table → Type 0) → Limits → Table → Type 0
+SoundBy Rules lim t = Proper t × (1 ≤ lim .rows → Rules lim t)
+
 abbrev pub Sound : Limits → Table → Type 0
-Sound lim t = Proper t × (1 ≤ lim .rows → Keeps lim t)
+Sound = SoundBy Keeps
 
 -- the rows at CHARMAP
 rows-full : (h : Keys) (rows : List (List Cell)) → All (λ r. length r ≡ 256) rows → All (λ r. length r ≡ 256) (rowsAt h rows)
@@ -169,7 +173,7 @@ charmap-proper lim h rows f =
     record { rows-full = rows-full h rows (f .full); lines-proper = tt; sub-bytes = f .bytes; sub1-byte = f .byte }
 
 charmap-keeps : (lim : Limits) (h : Keys) (rows : List (List Cell)) → Fits lim h rows → n13 h (length rows) ≡ false → n16 h (rowsAt h rows) ≡ false → 1 ≤ lim .rows
-    → Keeps lim (tableWith h (rowsAt h rows) [])
+    → KeepsSoFar lim (tableWith h (rowsAt h rows) [])
 unfolding n13 n16 rowsAt allOf t9
 charmap-keeps lim h rows f e g one =
     let a1 = and-right (h .name) _ (not-false (nothingAbsent h (length rows)) e) in
@@ -203,8 +207,8 @@ mapping-proper : (h : Keys) (rows : List (List Cell)) (ls : List Line) (l : Line
 mapping-proper h rows ls l p q =
     record { rows-full = p .rows-full; lines-proper = (q, p .lines-proper); sub-bytes = p .sub-bytes; sub1-byte = p .sub1-byte }
 
-pub mapping-keeps : (lim : Limits) (h : Keys) (rows : List (List Cell)) (ls : List Line) (l : Line) → Keeps lim (tableWith h rows ls) → NoneHolds (mappingConditions lim h rows ls l)
-    → Keeps lim (tableWith h rows (l ∷ ls))
+pub mapping-keeps : (lim : Limits) (h : Keys) (rows : List (List Cell)) (ls : List Line) (l : Line) → KeepsSoFar lim (tableWith h rows ls) → NoneHolds (mappingConditions lim h rows ls l)
+    → KeepsSoFar lim (tableWith h rows (l ∷ ls))
 unfolding mappingConditions n20 n21 n22 n23 n24 n25 n26 allOf t9
 mapping-keeps lim h rows ls l k n =
     record {
@@ -223,10 +227,10 @@ mapping-keeps lim h rows ls l k n =
     }
 
 -- and one mapping less: the rules of the longer list are the conditions at its last line
-pub Keeps-∷⁻ : (lim : Limits) (h : Keys) (rows : List (List Cell)) (ls : List Line) (l : Line) → Keeps lim (tableWith h rows (l ∷ ls))
-    → Keeps lim (tableWith h rows ls) × NoneHolds (mappingConditions lim h rows ls l)
+pub KeepsSoFar-∷⁻ : (lim : Limits) (h : Keys) (rows : List (List Cell)) (ls : List Line) (l : Line) → KeepsSoFar lim (tableWith h rows (l ∷ ls))
+    → KeepsSoFar lim (tableWith h rows ls) × NoneHolds (mappingConditions lim h rows ls l)
 unfolding mappingConditions n20 n21 n22 n23 n24 n25 n26 allOf t9
-Keeps-∷⁻ lim h rows ls l k =
+KeepsSoFar-∷⁻ lim h rows ls l k =
     let m = leb-true (suc (length ls)) (lim .mappings) (k .rule1-lines) in
     let b = unless-right (anyOf (λ x. sharesBytes x l) ls) _ (k .rule9) in (
       record {
@@ -264,10 +268,19 @@ Keeps-∷⁻ lim h rows ls l k =
       ),
     )
 
+-- END CHARMAP: T10 of all lines
+end-keeps : (lim : Limits) (h : Keys) (rows : List (List Cell)) (ls : List Line) → KeepsSoFar lim (tableWith h rows ls) → n28 ls ≡ false → Keeps lim (tableWith h rows ls)
+unfolding n28
+end-keeps lim h rows ls k e = record { so-far = k; rule10 = not-false (t10 ls) e }
+
+pub Keeps⇒end : (lim : Limits) (h : Keys) (rows : List (List Cell)) (ls : List Line) → Keeps lim (tableWith h rows ls) → n28 ls ≡ false
+unfolding n28
+Keeps⇒end lim h rows ls k = ap not (k .rule10)
+
 -- what a reading holds: ranges before CHARMAP, a sound table from there on
 abbrev pub RulesSoFarAt : Limits → Phase → Keys → List (List Cell) → List Line → Type 0
 RulesSoFarAt lim Header h rows ls = Fits lim h rows
-RulesSoFarAt lim Mappings h rows ls = Sound lim (tableWith h rows ls)
+RulesSoFarAt lim Mappings h rows ls = SoundBy KeepsSoFar lim (tableWith h rows ls)
 RulesSoFarAt lim Ended h rows ls = Sound lim (tableWith h rows ls)
 
 abbrev pub RulesSoFar : Limits → Reading → Type 0
@@ -282,11 +295,11 @@ header-held lim h rows s header.Charmap i f n = (charmap-proper lim h rows f, λ
 header-held lim h rows s (header.Known k v q e) i f n = keep-fits lim h rows (take (e - q) (drop q s)) v i (n .1 .1 .1 .0) f
 
 mapping-held : (lim : Limits) (h : Keys) (rows : List (List Cell)) (ls : List Line) (s : List ℕ) (x : BodyLine) → bodyLineOf s ≡ x
-    → Sound lim (tableWith h rows ls) → NoneHolds (mappingAsks lim h rows ls x .conditions) → RulesSoFar lim (mappingAsks lim h rows ls x .behind)
+    → SoundBy KeepsSoFar lim (tableWith h rows ls) → NoneHolds (mappingAsks lim h rows ls x .conditions) → RulesSoFar lim (mappingAsks lim h rows ls x .behind)
 mapping-held lim h rows ls s noForm i f n = f
 mapping-held lim h rows ls s reserved i f n = f
 mapping-held lim h rows ls s blank i f n = f
-mapping-held lim h rows ls s ending i f n = f
+mapping-held lim h rows ls s ending i f n = (f .0, λ one. end-keeps lim h rows ls (f .1 one) (n .0))
 mapping-held lim h rows ls s (mapping u c d) i f n =
     let b = form-bytes s u c d i in (
       mapping-proper h rows ls (lineAs u c d) (f .0) (record { bytes = b .0; digit = omega (arith, b .3) }),

@@ -33,7 +33,7 @@ t1Sizes⇒Sizes min max h =
 -- a table that keeps the rules
 module _ (lim : Limits) (t : Table) (k : Keeps lim t) where
   pub kept-sizes : Sizes (t .min) (t .max)
-  kept-sizes = t1Sizes⇒Sizes (t .min) (t .max) (k .rule1-sizes)
+  kept-sizes = t1Sizes⇒Sizes (t .min) (t .max) (k .so-far .rule1-sizes)
 
   pub kept-short : (s : List ℕ) → AllByte s → (endKind (stepsOf t) 0 s ≡ 0 → ⊥) → length s ≤ longest
-  kept-short s b e = let h = short-code (stepsOf t) (t .max) 0 s (k .rule3) b e in omega (arith, kept-sizes .most)
+  kept-short s b e = let h = short-code (stepsOf t) (t .max) 0 s (k .so-far .rule3) b e in omega (arith, kept-sizes .most)

@@ -30,8 +30,8 @@ pub left-form : (lim : Limits) (text : List ℕ) (t : Table) (m : Slices) → 1 
     → Form lim t (recordOf t) (leftIn lim (read (accepted t)) m)
 left-form lim text t m one e =
     let k = accepted-keeps-rules lim text t one e in
-    let rows = leb-true (length (t .rows)) (lim .rows) (and-right (leb 1 (length (t .rows))) _ (k .rule1-rows)) in
-    let lines = leb-true (length (t .lines)) (lim .mappings) (k .rule1-lines) in
+    let rows = leb-true (length (t .rows)) (lim .rows) (and-right (leb 1 (length (t .rows))) _ (k .so-far .rule1-rows)) in
+    let lines = leb-true (length (t .lines)) (lim .mappings) (k .so-far .rule1-lines) in
     let f = length-numbers (t .rows) (accepted-proper lim text t e .rows-full) in
     let n : length (sorted (t .lines)) ≡ length (t .lines) = length-sort less (map storedOf (t .lines)) ∙ length-map (t .lines) storedOf in
     record {

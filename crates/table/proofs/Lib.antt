@@ -33,6 +33,8 @@ pub mod StoredLine
 mod LineClashes
 pub mod FormLines
 mod TestParts
+pub mod ReadBack
+mod Neighbours
 mod NumbersBack
 mod ReadForm
 pub mod FormTested

@@ -1,4 +1,4 @@
--- After CHARMAP: the conditions on a mapping by its numbers, and what one mapping more leaves in memory.
+-- After CHARMAP: the conditions on a mapping by its numbers, and what one mapping more leaves in memory; those at END CHARMAP.
 use Prim.Native.Nat.{ℕ, _+_, _-_, _*_, _/_, _<_, _≤_}
 use mathlib.Core.Path.{_≡_, refl, sym, ap, subst, _∙_}
 use mathlib.Core.Bool.{Bool, true, false, not}
@@ -25,16 +25,18 @@ use Rattle.table.specs.Stored.{Stored, mk, bitsOf, infoOf, rankOf, store
 use Rattle.table.specs.Slices.{slices}
 use Rattle.table.specs.Memory.{storedList, sorted, orderOf, sub1In, SlicesHold}
 use Rattle.table.specs.Keys.{minOf, maxOf}
+use Rattle.table.specs.loops.Backed.{backed}
+use Rattle.table.proofs.Neighbours.{backed-lines}
 use Rattle.table.specs.loops.Search.{readTaken, writeTaken, AllApart, Kept}
-use Rattle.table.specs.Numbers.{cond, lowest, n20, n21, n22, n23, n24, n25, n26, mappingConditions}
+use Rattle.table.specs.Numbers.{cond, lowest, n20, n21, n22, n23, n24, n25, n26, n28, mappingConditions, endConditions}
 use Rattle.table.specs.Load.{judged, reading, lineAs}
 use Rattle.table.specs.loops.Progress.{keysIn, GoodLine, Holding, StepTaken, progress}
 use Rattle.table.specs.declared.header.Head.{Head}
 use Rattle.table.specs.declared.load.Refusal.{Refusal}
-use Rattle.table.specs.declared.load.Refusal.the-variants.{NoScalar, NoSuchCode, LeadingZero, NoSubchar1, BytesTaken, PointTaken, TooMany}
+use Rattle.table.specs.declared.load.Refusal.the-variants.{NoScalar, NoSuchCode, LeadingZero, NoSubchar1, BytesTaken, PointTaken, TooMany, NotReadBack}
 use Rattle.table.specs.declared.load.Verdict.{Verdict}
 use Rattle.table.specs.declared.load.Verdict.the-variants.{Fine, Refuse}
-use Rattle.table.specs.declared.load.Phase.the-variants.{Mappings}
+use Rattle.table.specs.declared.load.Phase.the-variants.{Mappings, Ended}
 use Rattle.table.specs.declared.load.LineOutcome.the-variants as outcome
 use Rattle.table.proofs.Packing.{packed-fits, unpacked-packed}
 use Rattle.table.proofs.Sorted.{sorted-rising, sorted-apart}
@@ -45,7 +47,7 @@ use Rattle.table.proofs.Ranks.{hasCode-isSubstituted, writes-code}
 use Rattle.table.proofs.LineClashes.{t9⇒AllApart, read-taken-lines, write-taken-lines}
 use Rattle.table.proofs.StoredLine.{stored-point}
 use Rattle.table.proofs.LowestLaws.{lowest-fine}
-use Rattle.table.proofs.LineSteps.{fine-taken}
+use Rattle.table.proofs.LineSteps.{fine-taken, same-taken, refused-taken}
 use Rattle.table.proofs.RowLaws.{steps-filled}
 use Rattle.table.proofs.KeyLaws.{minOf-keysIn, maxOf-keysIn}
 use Rattle.lists.specs.Strings.{same}
@@ -197,6 +199,27 @@ module _ (lim : Limits) (h : Head) (n : ℕ) (rows : List (List Cell)) (ls : Lis
   held-stored : storedList (take n c) (take n i) ≡ sorted ls
   unfolding Holding⇒Kept
   held-stored = entries-es (lim .mappings) n c i o Holding⇒Kept
+
+  pub held-few : n ≤ lim .mappings
+  unfolding Holding⇒Kept
+  held-few = omega (arith, Holding⇒Kept .count, held .stored .fits)
+
+  -- END CHARMAP: T10 by neighbours
+  module _ (b : Bool) (is : b ≡ backed (storedList (take n c) (take n i))) where
+    lowest-end : (v : Bool) → b ≡ v → lowest (endConditions ls) ≡ pick (not v) (Refuse NotReadBack) Fine
+    unfolding lowest n28
+    lowest-end v e =
+        ap (λ (x : Bool). pick (not x) (Refuse NotReadBack) Fine)
+        (sym (is ∙ ap backed held-stored ∙ backed-lines ls goods (held .lines-apart)) ∙ e)
+
+    pub end-taken : b ≡ true → StepTaken lim (judged (lowest (endConditions ls)) (reading Ended (keysIn h) rows ls)) (outcome.On (progress Ended h n)) (slices s c i o)
+    end-taken e =
+        subst (λ (v : Verdict). StepTaken lim (judged v (reading Ended (keysIn h) rows ls)) (outcome.On (progress Ended h n)) (slices s c i o))
+        (sym (lowest-end true e)) (same-taken lim Ended h n rows ls (slices s c i o) held)
+
+    pub end-refused : b ≡ false → StepTaken lim (judged (lowest (endConditions ls)) (reading Ended (keysIn h) rows ls)) (outcome.Stop NotReadBack) (slices s c i o)
+    end-refused e =
+        refused-taken lim (lowest (endConditions ls)) (reading Ended (keysIn h) rows ls) NotReadBack (slices s c i o) (lowest-end false e)
 
   module _ (l : Line) (own : Verdict) (own-by : own ≡ ownVerdict (stepAt (take (needed lim) s)) h l) where
     abbrev last : Verdict

@@ -23,7 +23,7 @@ use Rattle.lists.specs.Tests.{anyOf}
 use Rattle.table.specs.Row.{entriesOf, unbuiltEntry, overEntry}
 use Rattle.table.specs.Header.{keyOf, className, valueOf, headerLineOf}
 use Rattle.table.specs.Mapping.{BodyLine, noForm, reserved, blank, ending, mapping, bodyLineOf, afterEndOf}
-use Rattle.table.specs.Numbers.{Cond, cond, refusalNumber, n11, n12, n14, n15, rowUnbuilt, rowOver, keyConditions, charmapConditions, mappingConditions, n10Behind, n14Behind, formConditions, behindConditions}
+use Rattle.table.specs.Numbers.{Cond, cond, refusalNumber, n11, n12, n14, n15, rowUnbuilt, rowOver, keyConditions, charmapConditions, mappingConditions, n10Behind, n14Behind, formConditions, behindConditions, endConditions}
 use Rattle.table.specs.Load.{Reading, lineAs, headerAsks, mappingAsks, lastAsks, phaseAsks}
 use Rattle.table.specs.FirstLine.{conditionsAt}
 use Rattle.table.specs.Grammar.{CharmapLine, AnyMapping, UnbuiltMapping, Pair, Quoted, keyText, classes, N10, Keyed, Fit, N12, UnbuiltPair, N14, N15}
@@ -391,7 +391,7 @@ module _ (lim : Limits) (h : Keys) (rows : List (List Cell)) (ls : List Line) wh
       )
       there reserved e i = absurd (clash (in-no-form false reserved .0 i) refl)
       there blank e i = absurd (clash (in-no-form false blank .0 i) refl)
-      there ending e i = absurd (clash (in-no-form false ending .0 i) refl)
+      there ending e i = absurd (not-in refusal.NoForm (endConditions ls) (λ z. omega arith, tt) i)
       there (mapping u c d) e i = absurd (not-in refusal.NoForm (mappingConditions lim h rows ls (lineAs u c d)) (not-mapped refusal.NoForm (omega arith) (lineAs u c d)) i)
 
       back : (f : BodyLine) → FormMeans s f → N10 Mappings s → In (cond refusal.NoForm true) (mappingAsks lim h rows ls f .conditions)
@@ -409,7 +409,7 @@ module _ (lim : Limits) (h : Keys) (rows : List (List Cell)) (ls : List Line) wh
       there noForm m i = absurd (clash (in-reserved false noForm .0 i) refl)
       there reserved m i = m
       there blank m i = absurd (clash (in-reserved false blank .0 i) refl)
-      there ending m i = absurd (clash (in-reserved false ending .0 i) refl)
+      there ending m i = absurd (not-in refusal.NotBuilt (endConditions ls) (λ z. omega arith, tt) i)
       there (mapping u c d) m i = absurd (not-in refusal.NotBuilt (mappingConditions lim h rows ls (lineAs u c d)) (not-mapped refusal.NotBuilt (omega arith) (lineAs u c d)) i)
 
       reserved-in : bodyLineOf s ≡ reserved → In (cond refusal.NotBuilt true) (mappingAsks lim h rows ls (bodyLineOf s) .conditions)
@@ -425,7 +425,7 @@ module _ (lim : Limits) (h : Keys) (rows : List (List Cell)) (ls : List Line) wh
   body-none x a b n noForm i = not-in x (behindConditions false noForm) (a .0, b) i
   body-none x a b n reserved i = not-in x (behindConditions false reserved) (a .0, b) i
   body-none x a b n blank i = not-in x (behindConditions false blank) (a .0, b) i
-  body-none x a b n ending i = not-in x (behindConditions false ending) (a .0, b) i
+  body-none x a b n ending i = not-in x (endConditions ls) (λ z. omega arith, tt) i
   body-none x a b n (mapping u c d) i = not-in x (mappingConditions lim h rows ls (lineAs u c d)) (not-mapped x n (lineAs u c d)) i
 
 -- ## A line behind END CHARMAP

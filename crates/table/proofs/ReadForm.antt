@@ -1,5 +1,5 @@
 -- From the test to the form: what passes is the form of the table that the memory holds.
--- held-proper, held-keeps, held-form: that table is as a text can give it, keeps T1 to T9, and this is its form.
+-- held-proper, held-keeps, held-form: that table is as a text can give it, keeps T1 to T10, and this is its form.
 use mathlib.Core.Path.{_≡_, refl, sym, ap, _∙_, subst}
 use mathlib.Core.Bool.{Bool, true}
 use mathlib.Core.List.{List, [], _∷_, map}
@@ -17,10 +17,10 @@ use Rattle.table.specs.Cells.{Cell, cellIn}
 use Rattle.table.specs.States.{Rows, stepAt}
 use Rattle.table.specs.Codes.{codeOf, bytesOf}
 use Rattle.table.specs.Meaning.{Line, Table, flat, stepsOn}
-use Rattle.table.specs.Rules.{Keeps, t2, t3, t4Sub, t4Sub1, t5, t6, t7, t8}
+use Rattle.table.specs.Rules.{Keeps, t2, t3, t4Sub, t4Sub1, t5, t6, t7, t8, t10}
 use Rattle.table.specs.Stored.{Stored, storedOk, storedOf, lineIn, less}
 use Rattle.table.specs.Slices.{Slices}
-use Rattle.table.specs.Memory.{storedList, sorted, numbersOf, sub1In, recordOf, SlicesHold, Form, Proper, pieces}
+use Rattle.table.specs.Memory.{storedList, sorted, numbersOf, sub1In, recordOf, SlicesHold, Form, Proper, pieces, linesIn}
 use Rattle.table.specs.loops.Progress.{GoodLine}
 use Rattle.table.specs.Valid.{stateOk, valid}
 use Rattle.table.specs.declared.valid.Record.{Record}
@@ -157,29 +157,36 @@ module _ (lim : Limits) (rec : Record) (m : Slices) (ok : valid lim rec m ≡ tr
         subchar1 = sym (sub1Of-sub1In (rec .subchar1)) i;
       })
 
+  held-back : t10 (map lineIn es) ≡ true
+  unfolding linesIn
+  held-back = passed .read-back
+
   pub held-keeps : Keeps lim held-table
   held-keeps =
       let rc = rows-count n (map cellIn (m .states)) in
       let lc = length-map es lineIn ∙ es-count in
       record {
-        rule1-rows =
-            and-yes (leb 1 (length rows-held)) _ (le-leb 1 (length rows-held) (omega (arith, numbers .least-rows)))
-            (le-leb (length rows-held) (lim .rows) (omega (arith, numbers .most-rows)));
-        rule1-lines = le-leb (length (map lineIn es)) (lim .mappings) (omega (arith, numbers .few-lines));
-        rule1-sizes = numbers .sizes;
-        rule2 =
-            ap (λ (k : ℕ). t2 k (flat rows-held)) rc ∙ sym (allOf-stateOk n (flat rows-held))
-            ∙ ap (allOf (stateOk n)) numbers-held ∙ rows-parts .entries;
-        rule3 = subst (λ (s : Rows). t3 s (rec .max) ≡ true) steps-same (passed .deep);
-        rule4-sub = subst (λ (s : Rows). t4Sub s (bytesOf (rec .subchar)) ≡ true) steps-same (passed .sub);
-        rule4-sub1 = subst (λ (s : Rows). t4Sub1 s (sub1In (rec .subchar1)) ≡ true) steps-same (passed .sub1);
-        rule5 =
-            subst (λ (s : Rows). allOf (t5 s (rec .min) (rec .max)) (map lineIn es) ≡ true) steps-same
-            (lines-map (LineKept step rec) (t5 step (rec .min) (rec .max)) es each (λ e k. k .keeps-5));
-        rule6 = lines-map (LineKept step rec) t6 es each (λ e k. k .keeps-6);
-        rule7 = lines-map (LineKept step rec) t7 es each (λ e k. k .keeps-7);
-        rule8 = lines-map (LineKept step rec) (t8 (sub1In (rec .subchar1))) es each (λ e k. k .keeps-8);
-        rule9 = AllApart⇒t9 (map lineIn es) each-good (subst AllApart (sym back) es-apart);
+        rule10 = held-back;
+        so-far = record {
+          rule1-rows =
+              and-yes (leb 1 (length rows-held)) _ (le-leb 1 (length rows-held) (omega (arith, numbers .least-rows)))
+              (le-leb (length rows-held) (lim .rows) (omega (arith, numbers .most-rows)));
+          rule1-lines = le-leb (length (map lineIn es)) (lim .mappings) (omega (arith, numbers .few-lines));
+          rule1-sizes = numbers .sizes;
+          rule2 =
+              ap (λ (k : ℕ). t2 k (flat rows-held)) rc ∙ sym (allOf-stateOk n (flat rows-held))
+              ∙ ap (allOf (stateOk n)) numbers-held ∙ rows-parts .entries;
+          rule3 = subst (λ (s : Rows). t3 s (rec .max) ≡ true) steps-same (passed .deep);
+          rule4-sub = subst (λ (s : Rows). t4Sub s (bytesOf (rec .subchar)) ≡ true) steps-same (passed .sub);
+          rule4-sub1 = subst (λ (s : Rows). t4Sub1 s (sub1In (rec .subchar1)) ≡ true) steps-same (passed .sub1);
+          rule5 =
+              subst (λ (s : Rows). allOf (t5 s (rec .min) (rec .max)) (map lineIn es) ≡ true) steps-same
+              (lines-map (LineKept step rec) (t5 step (rec .min) (rec .max)) es each (λ e k. k .keeps-5));
+          rule6 = lines-map (LineKept step rec) t6 es each (λ e k. k .keeps-6);
+          rule7 = lines-map (LineKept step rec) t7 es each (λ e k. k .keeps-7);
+          rule8 = lines-map (LineKept step rec) (t8 (sub1In (rec .subchar1))) es each (λ e k. k .keeps-8);
+          rule9 = AllApart⇒t9 (map lineIn es) each-good (subst AllApart (sym back) es-apart);
+        };
       }
 
   pub held-form : Form lim held-table rec m

@@ -223,7 +223,7 @@ pub record-left : (lim : Limits) (text : List ℕ) (p : Phase) (h : Head) (n : �
 unfolding recordOf tableOf
 record-left lim text p h n rows ls m one held e =
     let sub = subcharOf-keysIn h in
-    let some = sub-some _ _ (h .sub .len) (h .sub .bits) sub (accepted-keeps-rules lim text _ one e .rule4-sub) in
+    let some = sub-some _ _ (h .sub .len) (h .sub .bits) sub (accepted-keeps-rules lim text _ one e .so-far .rule4-sub) in
     let bits = ap packed sub ∙ pack-unpack (h .sub .len) (h .sub .bits) (held .head-proper .sub-padded some) in
     let len = ap length sub ∙ length-unpacked (h .sub .len) (h .sub .bits) in
     (λ j. record {

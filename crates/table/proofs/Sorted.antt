@@ -1,5 +1,6 @@
 -- The test of the mapping slices holds exactly when they are the form of some rising list of stored mappings that keeps T9.
 -- store-form   from the test to the form           form-store   from the form to the test
+-- readNext⇒less                 neighbours that pass rise
 -- sorted-rising, sorted-apart   lines in any order that keep T9: sorted they rise and still keep it
 use mathlib.Core.Path.{_≡_, sym, ap, _∙_}
 use mathlib.Core.Bool.{true, false}
@@ -24,6 +25,12 @@ use Rattle.lists.proofs.Nth.{Pairs-×⁺}
 use Rattle.lists.specs.Place.{filled}
 use Rattle.lists.specs.Tests.{zeros}
 use Rattle.table.specs.loops.Search.{Apart, AllApart, Kept}
+
+-- neighbours that pass rise
+pub readNext⇒less : (es : List Stored) → rises readNext es ≡ true → Rising less es
+readNext⇒less es r =
+    Pairs-⇒ {P = λ e. Unit {0}} (λ a b p q e. next-parts reading a b e .0) es (All-In⁺ es (λ e i. tt))
+    (rises⇒Rising readNext (next-trans reading) es r)
 
 -- ## From the test to the form
 module _ (limit n : ℕ) (codes infos order : List ℕ) (ok : storeOk limit n codes infos order ≡ true) where
@@ -88,7 +95,7 @@ module _ (limit n : ℕ) (codes infos order : List ℕ) (ok : storeOk limit n co
   any = All-In⁺ es (λ e i. tt)
 
   es-rising : Rising less es
-  es-rising = Pairs-⇒ {P = λ e. Unit {0}} (λ a b p q e. next-parts reading a b e .0) es any nexts
+  es-rising = readNext⇒less es (parts .risen)
 
   es-ordered : ordered (map bitsOf es) (map infoOf es) (take n order) ≡ true
   es-ordered = rw (es-codes, es-infos) (parts .in-order)

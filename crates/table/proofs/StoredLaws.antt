@@ -4,6 +4,7 @@
 -- Side                                       one side of T9: an order, a clash test, the key, and which lines take part
 -- clashes, clashing, clash-sym               two lines clash that have one key and take part
 -- next-yes, next-no, next-parts, next-trans  what neighbours are tested for, which is transitive
+-- rank-rises, code-between                   the lines of one code stand together, by rising rank
 -- reading, writing                           the two sides; key-writes: the key of the second order of a line that is written
 -- apart-sym, apart-differ                    lines that clash on neither side
 use mathlib.Core.Path.{_≡_, refl, sym, ap, subst, _∙_}
@@ -138,30 +139,54 @@ module _ {K : Type 0} {before shares next : Stored → Stored → Bool} {key : S
 abbrev pub readKey : Stored → ℕ × ℕ
 readKey e = (e .bits, extraIn (e .info))
 
-rank-between : (x y z : ℕ)
-    → x < y
-    → y < z
-    → extraIn x ≡ extraIn z
-    → rankIn x ≤ 1
-    → rankIn z ≤ 1
-    → (extraIn x ≡ extraIn y) × (rankIn y ≤ 1)
-rank-between x y z p q e f g = (omega arith, omega arith)
+-- the test of one code
+pub code⇒readKey : (a b : Stored)
+    → pick (eqb (a .bits) (b .bits)) (eqb (extraIn (a .info)) (extraIn (b .info))) false ≡ true
+    → readKey a ≡ readKey b
+code⇒readKey a b p =
+    let c = eqb-true (a .bits) (b .bits) (and-left (eqb (a .bits) (b .bits)) _ p) in
+    let n = eqb-true (extraIn (a .info)) (extraIn (b .info)) (and-right (eqb (a .bits) (b .bits)) _ p) in
+    λ i. (c i, n i)
 
-read-between : Between less readKey storedIsRead
-read-between a b c p q e f g = go (less-cases a b p) (less-cases b c q)
+pub readKey⇒code : (a b : Stored) → readKey a ≡ readKey b
+    → pick (eqb (a .bits) (b .bits)) (eqb (extraIn (a .info)) (extraIn (b .info))) false ≡ true
+readKey⇒code a b e =
+    and-yes _ _ (eq-eqb (a .bits) (b .bits) (ap (λ (k : ℕ × ℕ). k .0) e))
+    (eq-eqb (extraIn (a .info)) (extraIn (b .info)) (ap (λ (k : ℕ × ℕ). k .1) e))
+
+-- of one code the ranks rise
+pub rank-rises : (a b : Stored) → less a b ≡ true → readKey a ≡ readKey b → rankIn (a .info) ≤ rankIn (b .info)
+rank-rises a b p e = go (less-cases a b p)
+  where
+    by-infos : (x y : ℕ) → x < y → extraIn x ≡ extraIn y → rankIn x ≤ rankIn y
+    by-infos x y h k = omega arith
+
+    go : Before a b → rankIn (a .info) ≤ rankIn (b .info)
+    go (inl u) = absurd (omega (arith, ap (λ (k : ℕ × ℕ). k .0) e))
+    go (inr u) = by-infos (a .info) (b .info) (u .1) (ap (λ (k : ℕ × ℕ). k .1) e)
+
+-- the lines of one code stand together
+pub code-between : (a b c : Stored) → less a b ≡ true → less b c ≡ true → readKey a ≡ readKey c → readKey a ≡ readKey b
+code-between a b c p q e = go (less-cases a b p) (less-cases b c q)
   where
     bits : a .bits ≡ c .bits
     bits = ap (λ (k : ℕ × ℕ). k .0) e
 
-    go : Before a b → Before b c → (readKey a ≡ readKey b) × (storedIsRead b ≡ true)
+    by-infos : (x y z : ℕ) → x < y → y < z → extraIn x ≡ extraIn z → extraIn x ≡ extraIn y
+    by-infos x y z u v k = omega arith
+
+    go : Before a b → Before b c → readKey a ≡ readKey b
     go (inl u) (inl v) = absurd (omega (arith, bits))
     go (inl u) (inr v) = absurd (omega (arith, bits, v .0))
     go (inr u) (inl v) = absurd (omega (arith, bits, u .0))
     go (inr u) (inr v) =
-        let m =
-        rank-between (a .info) (b .info) (c .info) (u .1) (v .1) (ap (λ (k : ℕ × ℕ). k .1) e)
-        (leb-true (rankIn (a .info)) 1 f) (leb-true (rankIn (c .info)) 1 g) in
-        ((λ i. (u .0 i, m .0 i)), le-leb (rankIn (b .info)) 1 (m .1))
+        let m = by-infos (a .info) (b .info) (c .info) (u .1) (v .1) (ap (λ (k : ℕ × ℕ). k .1) e) in
+        λ i. (u .0 i, m i)
+
+read-between : Between less readKey storedIsRead
+read-between a b c p q e f g =
+    let k = code-between a b c p q e in
+    (k, le-leb (rankIn (b .info)) 1 (omega (arith, rank-rises b c q (sym k ∙ e), leb-true (rankIn (c .info)) 1 g)))
 
 pub reading : Side less readClash readNext readKey storedIsRead
 unfolding readNext readClash
@@ -169,13 +194,8 @@ reading = record {
   trans = less-trans;
   total = less-apart;
   same = λ a b. pick (eqb (a .bits) (b .bits)) (eqb (extraIn (a .info)) (extraIn (b .info))) false;
-  same-key = λ a b p.
-      let c = eqb-true (a .bits) (b .bits) (and-left (eqb (a .bits) (b .bits)) _ p) in
-      let n = eqb-true (extraIn (a .info)) (extraIn (b .info)) (and-right (eqb (a .bits) (b .bits)) _ p) in
-      λ i. (c i, n i);
-  key-same = λ a b e.
-      and-yes _ _ (eq-eqb (a .bits) (b .bits) (ap (λ (k : ℕ × ℕ). k .0) e))
-      (eq-eqb (extraIn (a .info)) (extraIn (b .info)) (ap (λ (k : ℕ × ℕ). k .1) e));
+  same-key = code⇒readKey;
+  key-same = readKey⇒code;
   shares-is =
       λ a b. sym (and-assoc (eqb (a .bits) (b .bits)) (eqb (extraIn (a .info)) (extraIn (b .info)))
       (pick (storedIsRead a) (storedIsRead b) false));

@@ -1,4 +1,5 @@
--- The loops of the test behind 60: the lines in one pass (lines-*), then the indices (ordered-*, index-*).
+-- The loops of the test behind 60: the lines in one pass (lines-*), then the indices (ordered-*, index-*). T10 at END CHARMAP is such a
+-- pass too (lines-backed).
 use mathlib.Core.Path.{_≡_, refl, sym, ap, _∙_}
 use mathlib.Core.Bool.{Bool, true, false}
 use mathlib.Core.List.{List, [], _∷_}
@@ -8,43 +9,59 @@ use lib.ListN.{length, drop, getD}
 use borrow.Author.Tests.{lt-ltb, le-ltb}
 use Rattle.lists.specs.Pick.{pick}
 use Rattle.lists.specs.Order.{risesFrom, rises}
-use Rattle.lists.proofs.Choice.{pick-false-false}
+use Rattle.lists.proofs.Choice.{pick-false-false, pick-true-false}
+use Rattle.lists.proofs.AllAny.{true-all}
+use Rattle.lists.proofs.Order.{All-In⁺}
 use Rattle.lists.proofs.Laws.{drop-∷, drop-past}
-use Rattle.table.specs.Stored.{Stored, mk, readNext, writeNext}
+use Rattle.table.specs.Stored.{Stored, mk, writeNext}
+use Rattle.table.specs.loops.Backed.{storedOnlyWrites, backedBy, firstBacked, backed}
 use Rattle.table.specs.Memory.{storedList, storedAt}
 use Rattle.table.specs.Valid.{indexNext, ordered}
 use Rattle.table.proofs.Entries.{entries-step, entries-end}
 use Rattle.lists.specs.Tests.{allOf}
 
--- stored mappings that rise and for each of which f holds, in one pass
-module _ (f : Stored → Bool) where
-  abbrev pub linesFrom : Stored → List Stored → Bool
-  linesFrom x l = pick (risesFrom readNext x l) (allOf f l) false
+-- stored mappings, each beside the next and for each of which f holds, in one pass
+module _ (next : Stored → Stored → Bool) (f : Stored → Bool) where
+  abbrev pub linesAll : List Stored → Bool
+  linesAll l = pick (firstBacked l) (pick (rises next l) (allOf f l) false) false
 
-  pub lines-none : (a b : List ℕ)
-      → length a ≡ 0
-      → true ≡ pick (rises readNext (storedList a b)) (allOf f (storedList a b)) false
+  abbrev pub linesFrom : Stored → List Stored → Bool
+  linesFrom x l = pick (risesFrom next x l) (allOf f l) false
+
+  pub lines-none : (a b : List ℕ) → length a ≡ 0 → true ≡ linesAll (storedList a b)
   unfolding rises allOf
-  lines-none a b h =
-      ap (λ (l : List Stored). pick (rises readNext l) (allOf f l) false) (sym (entries-end a b 0 (omega arith)))
+  lines-none a b h = ap linesAll (sym (entries-end a b 0 (omega arith)))
 
   module _ (a b : List ℕ) (e : length a ≡ length b) where
     module _ (h : length a ≡ 0 → ⊥) where
-      pub lines-out : f (mk (getD a 0 0) (getD b 0 0)) ≡ false
-          → pick (rises readNext (storedList a b)) (allOf f (storedList a b)) false ≡ false
-      unfolding rises allOf
-      lines-out q =
-          ap (λ (l : List Stored). pick (rises readNext l) (allOf f l) false) (entries-step a b 0 e (omega arith))
-          ∙ rw q (pick-false-false (risesFrom readNext (mk (getD a 0 0) (getD b 0 0)) (storedList (drop 1 a) (drop 1 b))))
+      abbrev head : Stored
+      head = mk (getD a 0 0) (getD b 0 0)
 
-      pub lines-start : f (mk (getD a 0 0) (getD b 0 0)) ≡ true
-          → pick (rises readNext (storedList a b)) (allOf f (storedList a b)) false
-          ≡ linesFrom (mk (getD a 0 0) (getD b 0 0)) (storedList (drop 1 a) (drop 1 b))
+      abbrev tail : List Stored
+      tail = storedList (drop 1 a) (drop 1 b)
+
+      lines-head : linesAll (storedList a b)
+          ≡ pick (pick (storedOnlyWrites head) false true)
+          (pick (risesFrom next head tail) (pick (f head) (allOf f tail) false) false) false
       unfolding rises allOf
-      lines-start q =
-          ap (λ (l : List Stored). pick (rises readNext l) (allOf f l) false) (entries-step a b 0 e (omega arith))
-          ∙ ap (λ (t : Bool). pick (risesFrom readNext (mk (getD a 0 0) (getD b 0 0)) (storedList (drop 1 a) (drop 1 b)))
-          (pick t (allOf f (storedList (drop 1 a) (drop 1 b))) false) false) q
+      lines-head = ap linesAll (entries-step a b 0 e (omega arith))
+
+      pub lines-void : storedOnlyWrites head ≡ true → linesAll (storedList a b) ≡ false
+      lines-void w =
+          lines-head ∙ ap (λ (t : Bool). pick (pick t false true)
+          (pick (risesFrom next head tail) (pick (f head) (allOf f tail) false) false) false) w
+
+      pub lines-out : f head ≡ false → linesAll (storedList a b) ≡ false
+      lines-out q =
+          lines-head ∙ ap (λ (t : Bool). pick (pick (storedOnlyWrites head) false true)
+          (pick (risesFrom next head tail) (pick t (allOf f tail) false) false) false) q
+          ∙ ap (λ (t : Bool). pick (pick (storedOnlyWrites head) false true) t false) (pick-false-false (risesFrom next head tail))
+          ∙ pick-false-false (pick (storedOnlyWrites head) false true)
+
+      pub lines-start : storedOnlyWrites head ≡ false → f head ≡ true → linesAll (storedList a b) ≡ linesFrom head tail
+      lines-start w q =
+          lines-head ∙ (λ t. pick (pick (w t) false true)
+          (pick (risesFrom next head tail) (pick (q t) (allOf f tail) false) false) false)
 
     module _ (x : Stored) (k : ℕ) (h : k < length a) where
       abbrev here : Stored
@@ -54,32 +71,42 @@ module _ (f : Stored → Bool) where
       behind = storedList (drop (k + 1) a) (drop (k + 1) b)
 
       lines-step : linesFrom x (storedList (drop k a) (drop k b))
-          ≡ pick (pick (readNext x here) (risesFrom readNext here behind) false)
+          ≡ pick (pick (next x here) (risesFrom next here behind) false)
           (pick (f here) (allOf f behind) false) false
       unfolding risesFrom allOf
       lines-step = ap (linesFrom x) (entries-step a b k e h)
 
-      pub lines-more : readNext x here ≡ true
+      pub lines-more : next x here ≡ true
           → f here ≡ true
           → linesFrom x (storedList (drop k a) (drop k b)) ≡ linesFrom here behind
       lines-more p q =
-          lines-step ∙ (λ t. pick (pick (p t) (risesFrom readNext here behind) false)
+          lines-step ∙ (λ t. pick (pick (p t) (risesFrom next here behind) false)
           (pick (q t) (allOf f behind) false) false)
 
-      pub lines-fall : readNext x here ≡ false → linesFrom x (storedList (drop k a) (drop k b)) ≡ false
+      pub lines-fall : next x here ≡ false → linesFrom x (storedList (drop k a) (drop k b)) ≡ false
       lines-fall p =
-          lines-step ∙ (λ t. pick (pick (p t) (risesFrom readNext here behind) false)
+          lines-step ∙ (λ t. pick (pick (p t) (risesFrom next here behind) false)
           (pick (f here) (allOf f behind) false) false)
 
       pub lines-break : f here ≡ false → linesFrom x (storedList (drop k a) (drop k b)) ≡ false
       lines-break q =
-          lines-step ∙ (λ t. pick (pick (readNext x here) (risesFrom readNext here behind) false)
+          lines-step ∙ (λ t. pick (pick (next x here) (risesFrom next here behind) false)
           (pick (q t) (allOf f behind) false) false)
-          ∙ pick-false-false (pick (readNext x here) (risesFrom readNext here behind) false)
+          ∙ pick-false-false (pick (next x here) (risesFrom next here behind) false)
 
   pub lines-end : (x : Stored) (a b : List ℕ) (k : ℕ) → length a ≤ k → linesFrom x (storedList (drop k a) (drop k b)) ≡ true
   unfolding risesFrom allOf
   lines-end x a b k h = ap (linesFrom x) (entries-end a b k h)
+
+-- where nothing is asked of each by itself
+abbrev pub anyLine : Stored → Bool
+anyLine e = true
+
+pub lines-backed : (l : List Stored) → linesAll backedBy anyLine l ≡ backed l
+lines-backed l =
+    ap (λ (t : Bool). pick (firstBacked l) t false)
+    (ap (λ (t : Bool). pick (rises backedBy l) t false) (true-all anyLine l (All-In⁺ l (λ e i. refl)))
+    ∙ pick-true-false (rises backedBy l))
 
 -- the indices
 pub ordered-none : (a b o : List ℕ) → length o ≡ 0 → true ≡ ordered a b o

@@ -19,10 +19,10 @@ use Rattle.lists.proofs.Laws.{and-yes, and-left, and-right}
 use Rattle.table.specs.Limits.{Limits, needed}
 use Rattle.table.specs.States.{Rows, stepAt, isCode}
 use Rattle.table.specs.Codes.{bytesOf, unpacked}
-use Rattle.table.specs.Rules.{t1Rows, t1Lines, t1Sizes, t3, t4Sub, t4Sub1, t5, t6, t7, t8}
+use Rattle.table.specs.Rules.{t1Rows, t1Lines, t1Sizes, t3, t4Sub, t4Sub1, t5, t6, t7, t8, t10}
 use Rattle.table.specs.Stored.{Stored, padded, storedOk, lineIn, readNext}
 use Rattle.table.specs.Slices.{Slices}
-use Rattle.table.specs.Memory.{storedList, sub1In}
+use Rattle.table.specs.Memory.{storedList, sub1In, linesIn}
 use Rattle.table.specs.Valid.{statesOk, recordOk, lineOk, ordered, storeOk, valid}
 use Rattle.table.specs.declared.valid.Record.{Record}
 use Rattle.table.proofs.Depth.{statesOk⇒StatesKept}
@@ -31,25 +31,26 @@ use Rattle.lists.proofs.Conjunctions.{and-last, and-pairs}
 use Rattle.lists.specs.Tests.{allOf, zeros}
 
 -- the tests in the order of the code
-pub mappings-are : (limit n : ℕ) (codes infos order : List ℕ) (l : Bool)
+pub mappings-are : (limit n : ℕ) (codes infos order : List ℕ) (l m : Bool)
+    → pick (rises readNext (storedList (take n codes) (take n infos))) l false ≡ m
     → pick (storeOk limit n codes infos order) l false
     ≡ pick (leb n limit)
     (pick (leb limit (length codes))
     (pick (leb limit (length infos))
     (pick (leb limit (length order))
-    (pick (pick (rises readNext (storedList (take n codes) (take n infos))) l false)
+    (pick m
     (pick (ordered (take n codes) (take n infos) (take n order))
     (pick (zeros (take (limit - n) (drop n codes)))
     (pick (zeros (take (limit - n) (drop n infos)))
     (zeros (take (limit - n) (drop n order)))
     false) false) false) false) false) false) false) false
 unfolding storeOk
-mappings-are limit n codes infos order l =
+mappings-are limit n codes infos order l m e =
     and-last (leb n limit) (leb limit (length codes)) (leb limit (length infos)) (leb limit (length order))
     (rises readNext (storedList (take n codes) (take n infos))) l
     (pick (ordered (take n codes) (take n infos) (take n order))
     (pick (zeros (take (limit - n) (drop n codes)))
-    (pick (zeros (take (limit - n) (drop n infos))) (zeros (take (limit - n) (drop n order))) false) false) false)
+    (pick (zeros (take (limit - n) (drop n infos))) (zeros (take (limit - n) (drop n order))) false) false) false) m e
 
 pub valid-is : (lim : Limits) (rec : Record) (m : Slices) → valid lim rec m
     ≡ pick (recordOk lim rec)
@@ -57,8 +58,9 @@ pub valid-is : (lim : Limits) (rec : Record) (m : Slices) → valid lim rec m
     (pick (pick (t4Sub (stepAt (take (needed lim) (m .states))) (bytesOf (rec .subchar)))
     (t4Sub1 (stepAt (take (needed lim) (m .states))) (sub1In (rec .subchar1))) false)
     (pick (storeOk (lim .mappings) (rec .mappings) (m .codes) (m .infos) (m .order))
+    (pick (t10 (linesIn rec (m .codes) (m .infos)))
     (allOf (lineOk (stepAt (take (needed lim) (m .states))) rec)
-    (storedList (take (rec .mappings) (m .codes)) (take (rec .mappings) (m .infos)))) false)
+    (storedList (take (rec .mappings) (m .codes)) (take (rec .mappings) (m .infos)))) false) false)
     false) false) false
 unfolding valid
 valid-is lim rec m =
@@ -67,8 +69,9 @@ valid-is lim rec m =
     (t4Sub (stepAt (take (needed lim) (m .states))) (bytesOf (rec .subchar)))
     (t4Sub1 (stepAt (take (needed lim) (m .states))) (sub1In (rec .subchar1)))
     (pick (storeOk (lim .mappings) (rec .mappings) (m .codes) (m .infos) (m .order))
+    (pick (t10 (linesIn rec (m .codes) (m .infos)))
     (allOf (lineOk (stepAt (take (needed lim) (m .states))) rec)
-    (storedList (take (rec .mappings) (m .codes)) (take (rec .mappings) (m .infos)))) false)
+    (storedList (take (rec .mappings) (m .codes)) (take (rec .mappings) (m .infos)))) false) false)
 
 -- what the record's test gives
 pub record RecordKept (lim : Limits) (rec : Record) : Type 0 where
@@ -120,7 +123,7 @@ pub record LineKept (step : Rows) (rec : Record) (e : Stored) : Type 0 where
   pub keeps-7 : t7 (lineIn e) ≡ true
   pub keeps-8 : t8 (sub1In (rec .subchar1)) (lineIn e) ≡ true
 
-line-kept : (step : Rows) (rec : Record) (e : Stored) → lineOk step rec e ≡ true → LineKept step rec e
+pub line-kept : (step : Rows) (rec : Record) (e : Stored) → lineOk step rec e ≡ true → LineKept step rec e
 unfolding lineOk
 line-kept step rec e h =
     let h1 = and-right (storedOk e) _ h in
@@ -150,6 +153,7 @@ pub record Tested (lim : Limits) (rec : Record) (m : Slices) : Type 0 where
   pub sub : t4Sub (stepAt (take (needed lim) (m .states))) (bytesOf (rec .subchar)) ≡ true
   pub sub1 : t4Sub1 (stepAt (take (needed lim) (m .states))) (sub1In (rec .subchar1)) ≡ true
   pub store-ok : storeOk (lim .mappings) (rec .mappings) (m .codes) (m .infos) (m .order) ≡ true
+  pub read-back : t10 (linesIn rec (m .codes) (m .infos)) ≡ true
   pub lines-ok : allOf (lineOk (stepAt (take (needed lim) (m .states))) rec)
       (storedList (take (rec .mappings) (m .codes)) (take (rec .mappings) (m .infos))) ≡ true
 
@@ -161,6 +165,7 @@ tested lim rec m h =
     let h3 = and-right (t3 (stepAt (take (needed lim) (m .states))) (rec .max)) _ h2 in
     let h4 = and-right (t4Sub (stepAt (take (needed lim) (m .states))) (bytesOf (rec .subchar))) _ h3 in
     let h5 = and-right (t4Sub1 (stepAt (take (needed lim) (m .states))) (sub1In (rec .subchar1))) _ h4 in
+    let h6 = and-right (storeOk (lim .mappings) (rec .mappings) (m .codes) (m .infos) (m .order)) _ h5 in
     record {
       rec-ok = and-left (recordOk lim rec) _ h;
       states-ok = and-left (statesOk lim (rec .rows) (m .states)) _ h1;
@@ -168,7 +173,8 @@ tested lim rec m h =
       sub = and-left (t4Sub (stepAt (take (needed lim) (m .states))) (bytesOf (rec .subchar))) _ h3;
       sub1 = and-left (t4Sub1 (stepAt (take (needed lim) (m .states))) (sub1In (rec .subchar1))) _ h4;
       store-ok = and-left (storeOk (lim .mappings) (rec .mappings) (m .codes) (m .infos) (m .order)) _ h5;
-      lines-ok = and-right (storeOk (lim .mappings) (rec .mappings) (m .codes) (m .infos) (m .order)) _ h5;
+      read-back = and-left (t10 (linesIn rec (m .codes) (m .infos))) _ h6;
+      lines-ok = and-right (t10 (linesIn rec (m .codes) (m .infos))) _ h6;
     }
 
 pub untested : (lim : Limits) (rec : Record) (m : Slices) → Tested lim rec m → valid lim rec m ≡ true
@@ -179,7 +185,8 @@ untested lim rec m k =
     (and-yes (t3 (stepAt (take (needed lim) (m .states))) (rec .max)) _ (k .deep)
     (and-yes (t4Sub (stepAt (take (needed lim) (m .states))) (bytesOf (rec .subchar))) _ (k .sub)
     (and-yes (t4Sub1 (stepAt (take (needed lim) (m .states))) (sub1In (rec .subchar1))) _ (k .sub1)
-    (and-yes (storeOk (lim .mappings) (rec .mappings) (m .codes) (m .infos) (m .order)) _ (k .store-ok) (k .lines-ok))))))
+    (and-yes (storeOk (lim .mappings) (rec .mappings) (m .codes) (m .infos) (m .order)) _ (k .store-ok)
+    (and-yes (t10 (linesIn rec (m .codes) (m .infos))) _ (k .read-back) (k .lines-ok)))))))
 
 -- each stored line keeps the rules
 pub Tested⇒LineKept : (lim : Limits) (rec : Record) (m : Slices) → Tested lim rec m

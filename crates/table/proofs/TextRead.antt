@@ -345,4 +345,4 @@ accepted-exactly lim text t one = (
 )
   where
     rows-within : (lim : Limits) (t : Table) → Keeps lim t → length (t .rows) ≤ lim .rows
-    rows-within lim t k = leb-true (length (t .rows)) (lim .rows) (and-right (leb 1 (length (t .rows))) (leb (length (t .rows)) (lim .rows)) (k .rule1-rows))
+    rows-within lim t k = leb-true (length (t .rows)) (lim .rows) (and-right (leb 1 (length (t .rows))) (leb (length (t .rows)) (lim .rows)) (k .so-far .rule1-rows))

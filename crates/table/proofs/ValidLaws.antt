@@ -1,5 +1,5 @@
 -- The test behind number 60 holds exactly of the forms of tables that keep the rules; one form for one meaning.
--- valid-form    what passes is the form of a table that keeps T1 to T9
+-- valid-form    what passes is the form of a table that keeps T1 to T10
 -- valid-table   the same of the table that the definitions read from the memory, for the crates above
 -- form-valid    the form of a table that keeps the rules passes
 -- one-form      one meaning, one form: two memories in it agree in all needed places
@@ -94,7 +94,7 @@ module _ (lim : Limits) (t u : Table) (p : Proper t) (q : Proper u) (k : Keeps l
   sorted-one : SameTable t u → sorted (t .lines) ≡ sorted (u .lines)
   sorted-one s =
       one-sorted (map storedOf (t .lines)) (map storedOf (u .lines))
-      (t9⇒AllApart (t .lines) (keeps-good lim t p k) (k .rule9)) (t9⇒AllApart (u .lines) (keeps-good lim u q m) (m .rule9))
+      (t9⇒AllApart (t .lines) (keeps-good lim t p k) (k .so-far .rule9)) (t9⇒AllApart (u .lines) (keeps-good lim u q m) (m .so-far .rule9))
       (In-map-⊆ storedOf (t .lines) (u .lines) (s .there))
       (In-map-⊆ storedOf (u .lines) (t .lines) (s .back))
 

@@ -24,6 +24,7 @@ use Rattle.table.specs.Header.{isRow, headerLineOf}
 use Rattle.table.specs.Mapping.{BodyLine, noForm, reserved, blank, ending, mapping, bodyLineOf, afterEndOf}
 use Rattle.table.specs.Numbers.{Cond, refusalNumber, lowest, inForm, keyConditions, charmapConditions}
 use Rattle.table.specs.Numbers.{mappingConditions, rowsAt, n1, n2, n27, formConditions, behindConditions}
+use Rattle.table.specs.Numbers.{endConditions}
 use Rattle.table.specs.declared.valid.Record.{Record}
 use Rattle.table.specs.declared.header.HeaderLine.the-variants as header
 use Rattle.table.specs.declared.load.Refusal.{Refusal}
@@ -100,7 +101,7 @@ abbrev pub mappingAsks : Limits → Keys → List (List Cell) → List Line → 
 mappingAsks lim h rows ls noForm = asks (behindConditions false noForm) (reading Mappings h rows ls)
 mappingAsks lim h rows ls reserved = asks (behindConditions false reserved) (reading Mappings h rows ls)
 mappingAsks lim h rows ls blank = asks (behindConditions false blank) (reading Mappings h rows ls)
-mappingAsks lim h rows ls ending = asks (behindConditions false ending) (reading Ended h rows ls)
+mappingAsks lim h rows ls ending = asks (endConditions ls) (reading Ended h rows ls)
 mappingAsks lim h rows ls (mapping u c d) =
     asks (mappingConditions lim h rows ls (lineAs u c d)) (reading Mappings h rows (lineAs u c d ∷ ls))
 
@@ -164,7 +165,7 @@ unfoldable pub loadOf : Limits → List ℕ → Outcome
 loadOf lim text = loadGo lowest lim 0 (linesOf text) (goesOn start)
 
 -- the reader asked for the grammar alone: no number from 10 to 15 and no 27 holds; rows and lines, whatever they break
--- of T2 to T9, of T1's sizes and its count of lines. Which texts are read so: `TableText` of Grammar.antt
+-- of T2 to T10, of T1's sizes and its count of lines. Which texts are read so: `TableText` of Grammar.antt
 -- (proofs/TextRead.antt)
 unfoldable pub loadInForm : Limits → List ℕ → Outcome
 loadInForm lim text = loadGo inForm lim 0 (linesOf text) (goesOn start)

@@ -58,6 +58,10 @@ hasCode l = eqb (l .indicator) 0 or eqb (l .indicator) 1 or eqb (l .indicator) 3
 abbrev pub writesCode : Line → Bool
 writesCode l = eqb (l .indicator) 0 or eqb (l .indicator) 1
 
+-- `|1`, a fallback: its code is written for its code point, and not read
+abbrev pub onlyWrites : Line → Bool
+onlyWrites l = eqb (l .indicator) 1
+
 -- `|2`: its code point is substituted by subchar1
 abbrev pub isSubstituted : Line → Bool
 isSubstituted l = eqb (l .indicator) 2

@@ -1,8 +1,8 @@
 -- The numbers handed back for a text, in the order of document 01's table 'Numbers handed back for a text': `n1` to
--- `n27` say when each holds. 1 and 2 are asked before the text is read, 27 behind its last line, the others at a line,
--- given what came before it. What a line is, the readers say (Header.antt, Row.antt, Mapping.antt); 10, 12, 14 and 15
--- as sentences on its bytes: N10 to N15 of Grammar.antt.
--- Contents: the number of a refusal; n1 to n27; conditions, and the lowest that holds; the conditions at each kind of
+-- `n27` say when each holds; `n28` is document 02's (request 5). 1 and 2 are asked before the text is read, 27 behind
+-- its last line, the others at a line, given what came before it. What a line is, the readers say (Header.antt,
+-- Row.antt, Mapping.antt); 10, 12, 14 and 15 as sentences on its bytes: N10 to N15 of Grammar.antt.
+-- Contents: the number of a refusal; n1 to n28; conditions, and the lowest that holds; the conditions at each kind of
 -- line.
 -- Cases: proofs/HeaderCases.antt, proofs/TextCases.antt
 use Prim.Native.Nat.{ℕ, _+_}
@@ -15,7 +15,7 @@ use Rattle.table.specs.Limits.{Limits, needed}
 use Rattle.table.specs.Cells.{Cell, ends}
 use Rattle.table.specs.Meaning.{Line, flat, stepsOn}
 use Rattle.table.specs.Rules.{t2, t3, t4Sub, t4Sub1, t5, t6, t7, t8, sharesBytes, sharesPoint, t1Rows, t1Lines}
-use Rattle.table.specs.Rules.{t1Order}
+use Rattle.table.specs.Rules.{t1Order, t10}
 use Rattle.lists.specs.Tests.{anyOf}
 use Rattle.table.specs.Keys.{Keys, isSbcs, minOf, maxOf, subcharOf}
 use Rattle.lists.specs.Options.{isSome}
@@ -36,7 +36,7 @@ use Rattle.table.specs.declared.value.Key.the-variants.{CodeSetName, Cur
 use Rattle.table.specs.declared.value.Key.the-variants.{SubChar1, State, Base, Other}
 use Rattle.table.specs.declared.value.Value.{Value}
 
--- document 01's number of each refusal
+-- the number of each refusal (28 is document 02's)
 abbrev pub refusalNumber : Refusal → ℕ
 refusalNumber refusal.MemoryTooSmall = 1
 refusalNumber refusal.TextTooLong = 2
@@ -55,6 +55,7 @@ refusalNumber refusal.BytesTaken = 24
 refusalNumber refusal.PointTaken = 25
 refusalNumber refusal.TooMany = 26
 refusalNumber refusal.NoEnd = 27
+refusalNumber refusal.NotReadBack = 28
 
 -- the number of the answer to a text: 0 where it is accepted
 abbrev pub answerNumber : Answer → ℕ
@@ -186,6 +187,10 @@ n27 Header = true
 n27 Mappings = true
 n27 Ended = false
 
+-- 28, at END CHARMAP: the lines break T10
+unfoldable pub n28 : List Line → Bool
+n28 ls = not (t10 ls)
+
 -- a refusal, and whether it holds
 pub record Cond : Type 0 where
   pub refusal : Refusal
@@ -199,7 +204,7 @@ unfoldable pub lowest : List Cond → Verdict
 lowest [] = Fine
 lowest (c ∷ cs) = let r = lowest cs in if c .holds then Refuse (c .refusal) else r
 
--- of the conditions at a line 16 and 20 to 26 are about T1 to T9, the others about the grammar; of T1 the grammar
+-- of the conditions at a line 16, 20 to 26 and 28 are about T1 to T10, the others about the grammar; of T1 the grammar
 -- itself asks for a row (13) and allows no row beyond the last (15)
 abbrev pub isRule : Refusal → Bool
 isRule x = leb 16 (refusalNumber x)
@@ -248,3 +253,7 @@ mappingConditions lim h rows ls l =
     ∷ cond refusal.PointTaken (n25 ls l)
     ∷ cond refusal.TooMany (n26 lim ls)
     ∷ []
+
+-- the line END CHARMAP
+abbrev pub endConditions : List Line → List Cond
+endConditions ls = cond refusal.NotReadBack (n28 ls) ∷ []

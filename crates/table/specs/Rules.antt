@@ -1,5 +1,5 @@
--- T1 to T9 (document 01, 'What every table keeps'), one definition each, over rows and lines alone. `Keeps` is a table
--- that keeps them all.
+-- T1 to T9 (document 01, 'What every table keeps') and T10 (document 02, request 5), one definition each, over rows and
+-- lines alone. `Keeps` is a table that keeps them all.
 use Prim.Native.Nat.{ℕ}
 use mathlib.Core.Path.{_≡_}
 use mathlib.Core.Bool.{Bool, true, false}
@@ -11,7 +11,8 @@ use Rattle.lists.specs.Pick.{if_then_else_, _and_, _or_, _implies_}
 use Rattle.table.specs.Limits.{Limits}
 use Rattle.table.specs.States.{Rows, endKind, isCode, within, leadsTo}
 use Rattle.table.specs.Meaning.{Line, Table, flat, stepsOf, isRead, decidesPoint, hasCode, writesCode}
-use Rattle.table.specs.Meaning.{isSubstituted}
+use Rattle.table.specs.Meaning.{isSubstituted, onlyWrites, reader}
+use Rattle.lists.specs.Options.{isSome}
 use Rattle.lists.specs.Strings.{same}
 use Rattle.lists.specs.Tests.{allOf, anyOf}
 use Rattle.table.specs.Cells.{Cell, cellStep}
@@ -91,8 +92,12 @@ t9 (l ∷ ls) =
     let r = t9 ls in
     if anyOf (λ x. sharesBytes x l) ls then false else if anyOf (λ x. sharesPoint x l) ls then false else r
 
--- a table that keeps them all
-pub record Keeps (lim : Limits) (t : Table) : Type 0 where
+-- T10: the code of a `|1` line is read by a `|0` or `|3` line
+unfoldable pub t10 : List Line → Bool
+t10 ls = allOf (λ l. onlyWrites l implies isSome (reader (l .code) ls)) ls
+
+-- T1 to T9, which are asked line by line: a table that keeps them still does with its last line left out
+pub record KeepsSoFar (lim : Limits) (t : Table) : Type 0 where
   pub rule1-rows : t1Rows lim (length (t .rows)) ≡ true
   pub rule1-lines : t1Lines lim (length (t .lines)) ≡ true
   pub rule1-sizes : t1Sizes (t .min) (t .max) ≡ true
@@ -105,3 +110,8 @@ pub record Keeps (lim : Limits) (t : Table) : Type 0 where
   pub rule7 : allOf t7 (t .lines) ≡ true
   pub rule8 : allOf (t8 (t .subchar1)) (t .lines) ≡ true
   pub rule9 : t9 (t .lines) ≡ true
+
+-- a table that keeps them all; only of all lines together can T10 be asked
+pub record Keeps (lim : Limits) (t : Table) : Type 0 where
+  pub so-far : KeepsSoFar lim t
+  pub rule10 : t10 (t .lines) ≡ true

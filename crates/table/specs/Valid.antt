@@ -1,5 +1,5 @@
--- The test behind 60 (document 01, 'The two pipes': record and memory against T1 to T9 and the fixed form): one named
--- test for each rule, and the form.
+-- The test behind 60 (document 01, 'The two pipes': record and memory against T1 to T9 and the fixed form; T10 is
+-- document 02's, request 5): one named test for each rule, and the form.
 use Prim.Native.Nat.{ℕ, _-_, _*_}
 use mathlib.Core.Bool.{Bool, true}
 use mathlib.Core.List.{List, [], _∷_}
@@ -11,11 +11,11 @@ use Rattle.table.specs.Limits.{Limits, needed}
 use Rattle.table.specs.Cells.{cellStep, cellIn, known}
 use Rattle.table.specs.States.{Rows, stepAt, leadsTo}
 use Rattle.table.specs.Codes.{bytesOf}
-use Rattle.table.specs.Rules.{t1Rows, t1Lines, t1Sizes, t2Row, t3, t4Sub, t4Sub1, t5, t6, t7, t8}
+use Rattle.table.specs.Rules.{t1Rows, t1Lines, t1Sizes, t2Row, t3, t4Sub, t4Sub1, t5, t6, t7, t8, t10}
 use Rattle.lists.specs.Tests.{allOf, zeros}
 use Rattle.table.specs.Stored.{Stored, lineIn, storedOk, padded, readNext, writeNext}
 use Rattle.table.specs.Slices.{Slices}
-use Rattle.table.specs.Memory.{storedList, storedAt, sub1In}
+use Rattle.table.specs.Memory.{storedList, storedAt, sub1In, linesIn}
 use Rattle.table.specs.declared.valid.Record.{Record}
 
 -- a number of the states: of the form, and T2
@@ -68,7 +68,7 @@ storeOk limit n codes infos order =
     and zeros (take (limit - n) (drop n infos))
     and zeros (take (limit - n) (drop n order))
 
--- THE TEST: record and memory keep T1 to T9 and the form
+-- THE TEST: record and memory keep T1 to T10 and the form
 unfoldable pub valid : Limits → Record → Slices → Bool
 valid lim rec m =
     recordOk lim rec
@@ -77,5 +77,6 @@ valid lim rec m =
     and t4Sub (stepAt (take (needed lim) (m .states))) (bytesOf (rec .subchar))
     and t4Sub1 (stepAt (take (needed lim) (m .states))) (sub1In (rec .subchar1))
     and storeOk (lim .mappings) (rec .mappings) (m .codes) (m .infos) (m .order)
+    and t10 (linesIn rec (m .codes) (m .infos))
     and allOf (lineOk (stepAt (take (needed lim) (m .states))) rec)
     (storedList (take (rec .mappings) (m .codes)) (take (rec .mappings) (m .infos)))

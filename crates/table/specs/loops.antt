@@ -1,4 +1,5 @@
 -- What only loops and proofs need; nothing that is promised speaks of it.
+pub mod Backed
 pub mod Common
 pub mod LeadMarks
 pub mod Marks

@@ -17,6 +17,7 @@ use crate::text::zero_mappings;
 use crate::text::zero_states;
 use crate::valid::MAPPINGS;
 use crate::valid::Record;
+use crate::valid::all_backed;
 use crate::valid::keeps_t4;
 use crate::valid::keeps_t5;
 use crate::valid::keeps_t6;
@@ -39,7 +40,7 @@ ghost use Rattle.table.specs.Memory.{storedList};
 ghost use Rattle.table.specs.loops.Search.{readTaken, writeTaken, Kept};
 ghost use Rattle.table.specs.loops.Ranges.{InRange};
 ghost use Rattle.table.specs.Numbers.{refusalNumber, answerNumber, n1, n13, n16, n20, n22, n23, cond, lowest};
-ghost use Rattle.table.specs.Numbers.{rowsAt, keyConditions, charmapConditions, mappingConditions};
+ghost use Rattle.table.specs.Numbers.{rowsAt, keyConditions, charmapConditions, mappingConditions, endConditions};
 ghost use Rattle.table.specs.Load.{judged, reading, keepValue, keepRow, lineAs, lineStep, refused, read, loadOf};
 ghost use Rattle.table.specs.Load.{loadedAs, givenNumber, loadedBy, leftBy, statesOf, codesOf, infosOf};
 ghost use Rattle.table.specs.Load.{orderedOf, given, leftIn};
@@ -112,6 +113,9 @@ pub enum Refusal {
     TooMany,
     // 27: the text ends before END CHARMAP. Look whether it was cut off.
     NoEnd,
+    // 28: at END CHARMAP: some `|1` line writes a code that no `|0` or `|3` line reads. Add the line that reads it, or
+    // mend or drop the `|1` line.
+    NotReadBack,
 }
 
 // The verdict of the conditions at a line.
@@ -156,7 +160,7 @@ pub enum LineOutcome {
     Stop(Refusal),
 }
 
-// The number of a refusal in document 01.
+// The number of a refusal in documents 01 and 02.
 pub fn refusal_number(x: Refusal) -> u32
     ensures { λ r. ⌜ r ≡ refusalNumber x ⌝ }
 {
@@ -178,6 +182,7 @@ pub fn refusal_number(x: Refusal) -> u32
         Refusal::PointTaken => 25,
         Refusal::TooMany => 26,
         Refusal::NoEnd => 27,
+        Refusal::NotReadBack => 28,
     }
 }
 
@@ -495,6 +500,25 @@ fn add_mapping(
     }
 }
 
+// Reads the line END CHARMAP.
+fn take_end(h: Head, n: u32, codes: &[u32], infos: &[u32]) -> LineOutcome
+    requires { ⌜ (n ≤ length (now codes)) × (n ≤ length (now infos)) ⌝ }
+    ensures { λ r. ⌜ ((rows : List (List Cell)) (ls : List Line) (states order : List ℕ)
+        → let m = slices states (now (codes .entry)) (now (infos .entry)) order in
+        Holding limits h n rows ls m
+        → StepTaken limits (judged (lowest (endConditions ls)) (reading Ended (keysIn h) rows ls)) r m) ⌝ }
+{
+    let count = n as usize;
+    if all_backed(&codes[..count], &infos[..count]) {
+        return LineOutcome::On(Progress {
+            phase: Phase::Ended,
+            head: h,
+            mappings: n,
+        });
+    }
+    LineOutcome::Stop(Refusal::NotReadBack)
+}
+
 // Reads a line between CHARMAP and END CHARMAP.
 fn take_mapping(
     h: Head,
@@ -523,11 +547,7 @@ fn take_mapping(
             head: h,
             mappings: n,
         }),
-        Mapped::End => LineOutcome::On(Progress {
-            phase: Phase::Ended,
-            head: h,
-            mappings: n,
-        }),
+        Mapped::End => take_end(h, n, codes, infos),
         Mapped::Line(u, bits, len, d) => {
             add_mapping(h, n, u, bits, len, d, states, codes, infos, order)
         }

@@ -7,16 +7,18 @@ ghost use mathlib.Core.Bool.{true};
 ghost use mathlib.Core.List.{[]};
 ghost use Prim.Native.Nat.{ℕ, _+_, _≤_, _<_};
 ghost use lib.ListN.{length, take};
-ghost use lib.Dec.{leb};
+ghost use lib.Dec.{leb, eqb};
 ghost use Rattle.lists.specs.Order.{rises};
 ghost use Rattle.table.specs.Limits.{limits};
 ghost use Rattle.table.specs.States.{stepAt, endKind};
 ghost use Rattle.table.specs.Codes.{bytesOf};
-ghost use Rattle.table.specs.Rules.{t4Sub, t4Sub1, t5Kind, t6, t7, t8};
+ghost use Rattle.table.specs.Rules.{t4Sub, t4Sub1, t5Kind, t6, t7, t8, t10};
 ghost use Rattle.lists.specs.Tests.{allOf};
-ghost use Rattle.table.specs.Stored.{mk, lineIn, padded, isRank, storedOk, orderKeyIn, readNext, writeNext};
+ghost use Rattle.table.specs.Stored.{mk, lineIn, padded, isRank, storedOk, orderKeyIn, writeNext, readNext};
+ghost use Rattle.table.specs.Stored.{rankIn};
 ghost use Rattle.table.specs.Slices.{slices};
-ghost use Rattle.table.specs.Memory.{storedList, sub1In};
+ghost use Rattle.table.specs.Memory.{storedList, sub1In, linesIn};
+ghost use Rattle.table.specs.loops.Backed.{backedBy, firstBacked, backed, lineNext};
 ghost use Rattle.table.specs.loops.Common.{CommonCode};
 ghost use Rattle.table.specs.Valid.{ordered, recordOk, lineOk, storeOk, valid};
 use crate::states::TOP;
@@ -58,6 +60,63 @@ fn read_next(c: u32, i: u32, d: u32, j: u32) -> bool
         return true;
     }
     false
+}
+
+// Whether the second number of a stored mapping is that of a line that is written and not read (`|1`).
+fn only_writes(info: u32) -> bool
+    ensures { λ r. ⌜ r ≡ eqb (rankIn info) 2 ⌝ }
+{
+    info / RANK % 8 == 2
+}
+
+// T10 of neighbours in the first order: if the second is only written, both have one code.
+fn backed_by(c: u32, i: u32, d: u32, j: u32) -> bool
+    ensures { λ r. ⌜ r ≡ backedBy (mk c i) (mk d j) ⌝ }
+{
+    if j / RANK % 8 != 2 {
+        return true;
+    }
+    if c != d {
+        return false;
+    }
+    i / EXTRA == j / EXTRA
+}
+
+// All that neighbours in the first order are tested for.
+fn line_next(c: u32, i: u32, d: u32, j: u32) -> bool
+    ensures { λ r. ⌜ r ≡ lineNext (mk c i) (mk d j) ⌝ }
+{
+    if !backed_by(c, i, d, j) {
+        return false;
+    }
+    read_next(c, i, d, j)
+}
+
+// T10 of stored mappings that rise: each that is only written stands behind one of its own code.
+pub(crate) fn all_backed(codes: &[u32], infos: &[u32]) -> bool
+    requires { ⌜ length (now codes) ≡ length (now infos) ⌝ }
+    ensures { λ r. ⌜ r ≡ backed (storedList (now (codes .entry)) (now (infos .entry))) ⌝ }
+{
+    if codes.len() == 0 {
+        return true;
+    }
+    let mut c = codes[0];
+    let mut i = infos[0];
+    if only_writes(i) {
+        return false;
+    }
+    let mut k: usize = 1;
+    while k < codes.len() {
+        let d = codes[k];
+        let j = infos[k];
+        if !backed_by(c, i, d, j) {
+            return false;
+        }
+        c = d;
+        i = j;
+        k += 1;
+    }
+    true
 }
 
 // The test of neighbours in the second order: they rise, and do not both write the same code point.
@@ -297,18 +356,21 @@ fn line_ok(steps: &[u16], rec: Record, bits: u32, info: u32) -> bool
     rules_ok(steps, rec, bits, info)
 }
 
-// One pass over the stored mappings: each is a line that keeps T5 to T8, they rise, and no two neighbours read the same
-// bytes.
+// One pass over the stored mappings: each is a line that keeps T5 to T8, they rise, no two neighbours read the same
+// bytes, and one that is only written stands behind one of its own code.
 fn lines_ok(steps: &[u16], rec: Record, codes: &[u32], infos: &[u32]) -> bool
     requires { ⌜ length (now codes) ≡ length (now infos) ⌝ }
     ensures { λ r. ⌜ (let all = storedList (now (codes .entry)) (now (infos .entry)) in
-        r ≡ (rises readNext all and allOf (lineOk (stepAt (now (steps .entry))) rec) all)) ⌝ }
+        r ≡ (firstBacked all and rises lineNext all and allOf (lineOk (stepAt (now (steps .entry))) rec) all)) ⌝ }
 {
     if codes.len() == 0 {
         return true;
     }
     let mut c = codes[0];
     let mut i = infos[0];
+    if only_writes(i) {
+        return false;
+    }
     if !rules_ok(steps, rec, c, i) {
         return false;
     }
@@ -316,7 +378,7 @@ fn lines_ok(steps: &[u16], rec: Record, codes: &[u32], infos: &[u32]) -> bool
     while k < codes.len() {
         let d = codes[k];
         let j = infos[k];
-        if !read_next(c, i, d, j) {
+        if !line_next(c, i, d, j) {
             return false;
         }
         if !line_ok(steps, rec, d, j) {
@@ -366,6 +428,7 @@ fn mappings_ok(steps: &[u16], rec: Record, codes: &[u32], infos: &[u32], order: 
     ensures { λ r. ⌜ (let n = rec .mappings in
         let all = storedList (take n (now (codes .entry))) (take n (now (infos .entry))) in
         r ≡ (storeOk (limits .mappings) n (now (codes .entry)) (now (infos .entry)) (now (order .entry))
+        and t10 (linesIn rec (now (codes .entry)) (now (infos .entry)))
         and allOf (lineOk (stepAt (now (steps .entry))) rec) all)) ⌝ }
 {
     let n = rec.mappings as usize;

@@ -87,7 +87,7 @@ scalarAt d x n e =
     let g = toStep⇒Encoded (tableAt d) (a .settings) 0 codePoints (restAt d) (x ∷ []) n 0 (gaveOn d codePoints (sequence.Scalar x n) e) in
     let p = g .spelt in
     let q : g .point ≡ x = cc in
-    subst Scalar q (g .scalar (k .1 .rule6))
+    subst Scalar q (g .scalar (k .1 .so-far .rule6))
 
 -- the turn is over
 nextAt : (c : tie.After-known-told3 Inv-loop μ-loop) → let d = after-sequence2-2 c .before .before in

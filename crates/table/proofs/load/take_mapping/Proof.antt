@@ -1,6 +1,8 @@
 use Rattle.table.proofs.LineSteps.{same-taken, beyond-states, FormAs-codedForm, asks-at}
 use Rattle.table.proofs.MappingLaws.{form-bytes}
-use Rattle.table.specs.declared.load.Phase.the-variants.{Mappings, Ended}
+use Rattle.table.proofs.MappingSteps.{held-few}
+use native.Mathlib.Omega.{arith}
+use Rattle.table.specs.declared.load.Phase.the-variants.{Mappings}
 use Rattle.table.specs.declared.mapping.Mapped.the-variants as coded
 use Rattle.table.specs.Numbers.{lowest}
 use Rattle.table.specs.Load.{mappingAsks}
@@ -32,6 +34,18 @@ add-mapping-requires c κs =
     let w = rw (after-l c .l .given .1) at
     (c .before .before .before .before .before .before .read-mapping .ensures .1) in
     (entry (after-l c .before .before) .pre .0, entry (after-l c .before .before) .pre .1, w .2, w .4)
+
+abbrev after-enum-told4 : tie.After-take-end → tie.After-enum-told4
+after-enum-told4 c = c .before .before .before
+
+take-end-requires : tie.Need-take-end-requires
+take-end-requires c κs =
+    let s = entry (c .before .before .before .before) in
+    let a = s .args in
+    let lent = s .pre .0 in
+    let held = s .pre .1 in
+    let few = held-few limits (a .h) (a .n) (held .rows) (held .lines) (a .states .now) (a .codes .now) (a .infos .now) (a .order .now) (held .holding) in
+    (omega (arith, few, lent .codes-long), omega (arith, few, lent .infos-long))
 
 returns : tie.Need-returns
 unfolding lowest
@@ -66,14 +80,13 @@ returns-3 c =
     )
 
 returns-4 : tie.Need-returns-4
-unfolding lowest
 returns-4 c =
-    let a = entry (c .before .before) .args in (
+    let t = after-enum-told4 c in
+    let a = entry (t .before .before) .args in (
       λ rows ls held. asks-at limits _ _ _ _ (ap (mappingAsks limits (keysIn (a .h)) rows ls)
-          (FormAs-codedForm (bodyLineOf (a .line .now)) _ coded.End (c .before .before .read-mapping .ensures .0)
-          (c .enum-told4 .given .1)))
-          (same-taken limits Ended (a .h) (a .n) rows ls
-          (slices (a .states .now) (a .codes .now) (a .infos .now) (a .order .now)) held),
+          (FormAs-codedForm (bodyLineOf (a .line .now)) _ coded.End (t .before .before .read-mapping .ensures .0)
+          (t .enum-told4 .given .1)))
+          (c .take-end .ensures rows ls (a .states .now) (a .order .now) held),
       beyond-states limits (a .states .now) (a .states .now) (a .codes .now) (a .infos .now) (a .order .now) refl,
     )
 
@@ -93,5 +106,6 @@ pub take-mapping-spec : {M : Type 1} → statement M
 take-mapping-spec =
     tie.close
     (tie.spec (λ c κs. search needs) (λ c. search needs) (λ c. search needs) (λ c. search needs)
-    (λ c. search needs) (λ c. search needs) add-mapping-requires returns returns-2 returns-3 returns-4
-    (λ c. search needs) (λ c. search needs) (λ c. search needs) returns-5)
+    (λ c. search needs) take-end-requires (λ c. search needs) add-mapping-requires returns returns-2 returns-3
+    (λ c. search needs) (λ c. search needs) returns-4 (λ c. search needs) (λ c. search needs)
+    (λ c. search needs) returns-5)

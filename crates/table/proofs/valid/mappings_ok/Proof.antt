@@ -1,19 +1,15 @@
 use Rattle.table.specs.Limits.{limits}
-use Rattle.table.proofs.TestParts.{mappings-are}
+use Rattle.table.proofs.Neighbours.{mappings-tested}
 use Rattle.table.proofs.Places.{first-lengths}
 use borrow.Author.Tests.{not-true, not-false}
-use Rattle.table.specs.Valid.{lineOk}
-use Rattle.table.specs.Memory.{storedList}
 use Rattle.table.specs.States.{stepAt}
 use lib.Seq.{length-take-le}
 use mathlib.Core.Path.{sym, _∙_}
 use native.Mathlib.Omega.{arith}
-use lib.ListN.{take}
 use borrow.Author.Needs.{needs}
 use Rattle.lists.proofs.Laws.{tests}
 use Rattle.table.proofs.valid.mappings_ok.Statement.{statement}
 use Rattle.table.proofs.valid.mappings_ok.Tie as tie
-use Rattle.lists.specs.Tests.{allOf}
 
 abbrev entry : tie.After-struct-known → tie.Start
 entry c = c .before .before .before .before .before
@@ -36,23 +32,17 @@ else6 c = c .before .before .before .before .before
 returns : tie.Need-returns
 returns c =
     let a = entry (c .before) .args in
-    rw (mappings-are (limits .mappings) (a .rec .mappings) (a .codes .now) (a .infos .now) (a .order .now)
-    (allOf (lineOk (stepAt (a .steps .now)) (a .rec))
-    (storedList (take (a .rec .mappings) (a .codes .now)) (take (a .rec .mappings) (a .infos .now))))) (search tests)
+    rw (mappings-tested limits (stepAt (a .steps .now)) (a .rec) (a .codes .now) (a .infos .now) (a .order .now)) (search tests)
 
 returns-2 : tie.Need-returns-2
 returns-2 c =
     let a = entry (c .before .before) .args in
-    rw (mappings-are (limits .mappings) (a .rec .mappings) (a .codes .now) (a .infos .now) (a .order .now)
-    (allOf (lineOk (stepAt (a .steps .now)) (a .rec))
-    (storedList (take (a .rec .mappings) (a .codes .now)) (take (a .rec .mappings) (a .infos .now))))) (search tests)
+    rw (mappings-tested limits (stepAt (a .steps .now)) (a .rec) (a .codes .now) (a .infos .now) (a .order .now)) (search tests)
 
 returns-3 : tie.Need-returns-3
 returns-3 c =
     let a = entry (c .before .before .before) .args in
-    rw (mappings-are (limits .mappings) (a .rec .mappings) (a .codes .now) (a .infos .now) (a .order .now)
-    (allOf (lineOk (stepAt (a .steps .now)) (a .rec))
-    (storedList (take (a .rec .mappings) (a .codes .now)) (take (a .rec .mappings) (a .infos .now))))) (search tests)
+    rw (mappings-tested limits (stepAt (a .steps .now)) (a .rec) (a .codes .now) (a .infos .now) (a .order .now)) (search tests)
 
 slice-aggregate-lines-ok : tie.Need-slice-aggregate-lines-ok
 slice-aggregate-lines-ok c =
@@ -73,9 +63,7 @@ returns-4 c =
     let a = entry-2 (c .before .before) .args in
     let h = entry-2 (c .before .before) .pre in
     rw (
-      mappings-are (limits .mappings) (a .rec .mappings) (a .codes .now) (a .infos .now) (a .order .now)
-          (allOf (lineOk (stepAt (a .steps .now)) (a .rec))
-          (storedList (take (a .rec .mappings) (a .codes .now)) (take (a .rec .mappings) (a .infos .now)))),
+      mappings-tested limits (stepAt (a .steps .now)) (a .rec) (a .codes .now) (a .infos .now) (a .order .now),
       sym (c .before .lines-ok .ensures) ∙ not-true _ (c .if4 .taken),
     ) (search tests)
 
@@ -105,9 +93,7 @@ returns-5 c =
     let a = entry-2 (after-lines-ok (c .before .before) .before) .args in
     let h = entry-2 (after-lines-ok (c .before .before) .before) .pre in
     rw (
-      mappings-are (limits .mappings) (a .rec .mappings) (a .codes .now) (a .infos .now) (a .order .now)
-          (allOf (lineOk (stepAt (a .steps .now)) (a .rec))
-          (storedList (take (a .rec .mappings) (a .codes .now)) (take (a .rec .mappings) (a .infos .now)))),
+      mappings-tested limits (stepAt (a .steps .now)) (a .rec) (a .codes .now) (a .infos .now) (a .order .now),
       sym (after-lines-ok (c .before .before) .lines-ok .ensures)
           ∙ not-false _ (c .before .before .before .before .before .if4 .left),
       sym (c .before .order-ok .ensures)
@@ -119,9 +105,7 @@ returns-6 c =
     let a = entry-2 (else4 (c .before) .before .before) .args in
     let h = entry-2 (else4 (c .before) .before .before) .pre in
     rw (
-      mappings-are (limits .mappings) (a .rec .mappings) (a .codes .now) (a .infos .now) (a .order .now)
-          (allOf (lineOk (stepAt (a .steps .now)) (a .rec))
-          (storedList (take (a .rec .mappings) (a .codes .now)) (take (a .rec .mappings) (a .infos .now)))),
+      mappings-tested limits (stepAt (a .steps .now)) (a .rec) (a .codes .now) (a .infos .now) (a .order .now),
       sym (else4 (c .before) .before .lines-ok .ensures)
           ∙ not-false _ (else4 (c .before) .if4 .left),
       sym (c .before .before .before .before .order-ok .ensures)
@@ -135,9 +119,7 @@ returns-7 c =
     let a = entry-2 (else4 (after-zeros-ok c) .before .before) .args in
     let h = entry-2 (else4 (after-zeros-ok c) .before .before) .pre in
     rw (
-      mappings-are (limits .mappings) (a .rec .mappings) (a .codes .now) (a .infos .now) (a .order .now)
-          (allOf (lineOk (stepAt (a .steps .now)) (a .rec))
-          (storedList (take (a .rec .mappings) (a .codes .now)) (take (a .rec .mappings) (a .infos .now)))),
+      mappings-tested limits (stepAt (a .steps .now)) (a .rec) (a .codes .now) (a .infos .now) (a .order .now),
       sym (else4 (after-zeros-ok c) .before .lines-ok .ensures)
           ∙ not-false _ (else4 (after-zeros-ok c) .if4 .left),
       sym (after-zeros-ok c .before .before .before .order-ok .ensures)
@@ -153,9 +135,7 @@ returns-8 c =
     let a = entry-2 (else4 (else6 c .before) .before .before) .args in
     let h = entry-2 (else4 (else6 c .before) .before .before) .pre in
     rw (
-      mappings-are (limits .mappings) (a .rec .mappings) (a .codes .now) (a .infos .now) (a .order .now)
-          (allOf (lineOk (stepAt (a .steps .now)) (a .rec))
-          (storedList (take (a .rec .mappings) (a .codes .now)) (take (a .rec .mappings) (a .infos .now)))),
+      mappings-tested limits (stepAt (a .steps .now)) (a .rec) (a .codes .now) (a .infos .now) (a .order .now),
       sym (else4 (else6 c .before) .before .lines-ok .ensures)
           ∙ not-false _ (else4 (else6 c .before) .if4 .left),
       sym (else6 c .before .before .before .before .order-ok .ensures)
