@@ -1,6 +1,12 @@
 /*
- * Oboepond: conversion between a code page and Unicode text in UTF-8 or UTF-32, by a conversion table
- * in lent memory.
+ * Oboepond: conversion between a code page and Unicode text in UTF-8 or UTF-32, by a conversion table.
+ * This header has the eleven functions of the static library as they are, over slices that you lend.
+ * oboepond_table.h makes a table of them, and a call short: begin there.
+ *
+ * To build: the library is for Linux on x86-64, the one target that the kit builds for, and uses
+ * nothing but memcpy and memset of the C library:
+ *   rt staticlib cabi
+ *   cc -I include program.c target/staticlib/libcabi.a -o program
  *
  * No function keeps anything between calls (what a text in pieces needs is kept by the caller, in
  * `kept`) or takes memory but its stack: at most 2 KiB for load and check, 36 KiB for a conversion,
@@ -8,21 +14,22 @@
  * Each is proved: for every content of the slices it answers what is written here, ends, and touches
  * no other memory.
  * The caller sees to it that each pointer is not null, is aligned for its type and has the stated
- * number of elements behind it (a pointer of length 0 too is not null), and that no slice that is
- * written overlaps another.
+ * number of elements behind it, and that no slice that is written overlaps another. A pointer of
+ * length 0 is not null either: the kit does not say that it may be, so it may not. (The calls of
+ * oboepond_table.h take a null pointer of length 0.)
  *
  * Slices that hold a table:
- *   states   4,096 numbers are needed, 256 for each row
- *   codes, infos, order   2,048 numbers each are needed
  *   record   7 numbers: rows, mappings, mb_cur_min, mb_cur_max, subchar's bits, subchar's length,
  *            subchar1 (0 where there is none, else 1 + its byte)
+ *   states   4,096 numbers are needed, 256 for each row
+ *   codes, infos, order   2,048 numbers each are needed
  * A code's bits hold its bytes with the first one on top: 81 7C is 0x817C0000, of length 2.
  * Numbers past the needed ones are never touched.
  *
  * Every function answers OBOEPOND_SHORT (70) where `record`, `kept` or `result` has fewer numbers than
  * it says, and a function that takes a scheme OBOEPOND_NO_SCHEME (71) where the number is none: then
  * nothing is written anywhere, `kept` and `result` included. 70 goes before 71, and both before all
- * others. A `kept` or `result` longer than said keeps the rest of its values.
+ * others. A `record`, `kept` or `result` longer than said keeps the rest of its values.
  */
 #ifndef OBOEPOND_H
 #define OBOEPOND_H
@@ -34,11 +41,30 @@
 extern "C" {
 #endif
 
-/* The numbers that a needed slice has. */
-#define OBOEPOND_STATES 4096
-#define OBOEPOND_MAPPINGS 2048
-#define OBOEPOND_RECORD 7
-#define OBOEPOND_KEPT 5
+/* The version of this interface. Before 1.0 a new second number may change what is here. */
+#define OBOEPOND_VERSION_MAJOR 0
+#define OBOEPOND_VERSION_MINOR 6
+#define OBOEPOND_VERSION_PATCH 0
+#define OBOEPOND_VERSION "0.6.0"
+
+/* How many numbers a slice needs. */
+#define OBOEPOND_RECORD 7      /* record */
+#define OBOEPOND_STATES 4096   /* states */
+#define OBOEPOND_MAPPINGS 2048 /* codes, infos and order, each */
+#define OBOEPOND_KEPT 5        /* kept */
+#define OBOEPOND_LOADED 1      /* result of oboepond_load */
+#define OBOEPOND_DONE 3        /* result of a conversion: whole, of a piece, or closing */
+#define OBOEPOND_AUDITED 5     /* result of oboepond_audit */
+
+/* Output that always suffices for n bytes of input, either way and in every scheme, so that the answer is
+ * never 50. It is four bytes for each byte of the input, and four for a mark; for a piece, four more for
+ * each of the three bytes that may be kept. Proved: room-enough, from-room-enough, and never-full of
+ * all-pieces (docs/PROMISES.md). n is at most (SIZE_MAX - 16) / 4. */
+#define OBOEPOND_ROOM(n) ((size_t)4 * (size_t)(n) + 4)
+#define OBOEPOND_PIECE_ROOM(n) ((size_t)4 * (size_t)(n) + 16)
+
+/* The longest table text that is read. */
+#define OBOEPOND_TEXT 1048576
 
 /* Schemes: how Unicode text stands in bytes. UTF-8 is that of RFC 3629. UTF-32 has four bytes for each
  * character: a surrogate, or a number over 10FFFF, is illegal (52); a rest of fewer than four bytes is
@@ -80,6 +106,17 @@ extern "C" {
 #define OBOEPOND_NOT_READ_BACK 28   /* at END CHARMAP: some |1 line has bytes that no |0 or |3 line has. The panel
                                        would show a character that nobody can read back */
 
+/* The parts of an audit's entry: the code's bits, its length in bytes, its byte i (0 is the first), and
+ * the cause for which it is listed. */
+#define OBOEPOND_ENTRY_BITS(entry) ((uint32_t)(entry))
+#define OBOEPOND_ENTRY_LENGTH(entry) ((uint32_t)((entry) >> 32) & 0xff)
+#define OBOEPOND_ENTRY_BYTE(entry, i) ((uint8_t)((entry) >> (24 - 8 * (i))))
+#define OBOEPOND_ENTRY_CAUSE(entry) ((uint32_t)((entry) >> 40))
+#define OBOEPOND_CAUSE_MARKED 1      /* the table marks the code as unassigned: it is ended by u */
+#define OBOEPOND_CAUSE_NOT_READ 2    /* no line reads it */
+#define OBOEPOND_CAUSE_OTHER_CODE 3  /* it reads, but is written as another code */
+#define OBOEPOND_CAUSE_NOT_WRITTEN 4 /* it reads, but is not written */
+
 /* An audit call is refused. */
 #define OBOEPOND_BAD_POSITION 40 /* the position is neither the beginning nor a complete code */
 
@@ -115,13 +152,15 @@ extern "C" {
 #define OBOEPOND_NO_SCHEME 71 /* the number given for the scheme is none of those above */
 
 /*
- * Loads a table's text. Answers 0, or 1 to 28 as above; 70 where result has fewer than 8 numbers.
- * result: the line (0 where accepted, and with 1 and 2), then the seven numbers of the record.
- * Accepted: the slices hold the table, with zeros in the needed places that it does not use.
+ * Loads a table's text. Answers 0, or 1 to 28 as above; 70 where record has fewer than 7 numbers or
+ * result has none.
+ * result: the line (0 where accepted, and with 1 and 2).
+ * Accepted: record and slices hold the table, with zeros in the needed places that it does not use.
  * Refused: the record is zeros; with 1 and 2 the slices keep their values, with any other number all
  * needed places are zeros.
  */
 uint32_t oboepond_load(const uint8_t *text, size_t text_len,
+                       uint32_t *record, size_t record_len,
                        uint16_t *states, size_t states_len,
                        uint32_t *codes, size_t codes_len,
                        uint32_t *infos, size_t infos_len,
@@ -317,9 +356,8 @@ uint32_t oboepond_from_unicode_close(const uint32_t *record, size_t record_len,
  * same fallback setting, is written as the same code). The position is a code's bits and length;
  * length 0 with bits 0 is the beginning. Each code looked at takes one from the allowance; the call
  * stops when that is used, when no code is left, or before a code whose entry has no place.
- * An entry is the code's bits + 2^32 * its length + 2^40 * its cause: 1, it is ended by u; 2, no line
- * reads it; 3, it reads but is written as another code; 4, it reads but is not written; the lowest
- * that holds.
+ * An entry is the code's bits + 2^32 * its length + 2^40 * its cause; OBOEPOND_ENTRY_BITS, _LENGTH and
+ * _CAUSE take it apart. Of several causes it has the lowest.
  * Answers 0, 60 or 40 (60 goes before 40); 70 where record has fewer than 7 numbers or result fewer
  * than 5.
  * result: entries written, bits and length of the last code looked at (or the position as it came),

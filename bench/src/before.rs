@@ -1,11 +1,11 @@
 //! The linked library beside another build of it, an earlier landing: its
 //! archive is made into a shared library and opened.
 
+use crate::calls::{Calls, Pointers};
 use crate::dynamic::{Folder, Opened};
 use crate::library::{loading, Build, Lent, LINKED};
 use crate::older;
 use crate::pipes::both_ways;
-use crate::raw::Calls;
 use crate::texts::{load_texts, mappings, table_text, Scheme, Texts, BLENDS, MIXED};
 use crate::timing::{figure, nothing, way, Amount};
 use std::cell::RefCell;
@@ -16,11 +16,11 @@ use std::process::Command;
 const SHORT_PIECES: usize = 1_024;
 
 pub fn run(folder: &Path) {
-    let calls = opened(&folder.join("libcabi.a")).unwrap_or_else(|why| {
+    let pointers = opened(&folder.join("libcabi.a")).unwrap_or_else(|why| {
         println!("before: {why}");
         std::process::exit(1);
     });
-    let builds = [LINKED, Build { name: "before", calls }];
+    let builds = [LINKED, Build { name: "before", calls: Calls::Opened(pointers) }];
     for (name, text) in load_texts() {
         loads(name, &text, builds);
     }
@@ -37,7 +37,7 @@ pub fn run(folder: &Path) {
     for size in [16, 64, 256] {
         both_ways(&Texts::in_pieces(&all, MIXED, size, SHORT_PIECES), &[&linked, &other]);
     }
-    if calls.to_unicode.is_none() || calls.from_unicode.is_none() {
+    if pointers.to_unicode.is_none() || pointers.from_unicode.is_none() {
         println!("before: no UTF-32 in it");
         return;
     }
@@ -48,31 +48,24 @@ pub fn run(folder: &Path) {
     }
 }
 
-/// The calls of the archive; one from before UTF-32 lacks two, one from before
-/// pieces four more, and one from before skipping has conversions without that
-/// setting.
-fn opened(archive: &Path) -> Result<Calls, String> {
+/// The calls of the archive, behind those of today where they had another form.
+fn opened(archive: &Path) -> Result<Pointers, String> {
     let folder = Folder::make()?;
     let shared = folder.0.join("libbefore.so");
     make_shared(archive, &shared)?;
     let library = Opened::open(&shared)?;
     // SAFETY: the types are those of the library's header.
-    let calls = unsafe {
-        Calls {
-            load: Some(library.call("oboepond_load")?),
-            check: Some(library.call("oboepond_check")?),
+    let pointers = unsafe {
+        Pointers {
+            load: library.call("oboepond_load")?,
+            check: library.call("oboepond_check")?,
             to_utf8: Some(library.call("oboepond_to_utf8")?),
             from_utf8: Some(library.call("oboepond_from_utf8")?),
             to_unicode: library.call("oboepond_to_unicode").ok(),
             from_unicode: library.call("oboepond_from_unicode").ok(),
-            to_unicode_piece: library.call("oboepond_to_unicode_piece").ok(),
-            from_unicode_piece: library.call("oboepond_from_unicode_piece").ok(),
-            to_unicode_close: library.call("oboepond_to_unicode_close").ok(),
-            from_unicode_close: library.call("oboepond_from_unicode_close").ok(),
-            audit: Some(library.call("oboepond_audit")?),
         }
     };
-    older::without_skip(&library, calls)
+    older::of_today(&library, pointers)
 }
 
 /// With all of the archive, whose functions call each other and none of the

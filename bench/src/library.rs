@@ -1,9 +1,11 @@
 //! The library over the lent memory.
 
+use crate::calls::Calls;
+use crate::lending::{lent, lent_mut};
 use crate::memory::Memory;
-use crate::raw::{self, Calls};
 use crate::texts::Scheme;
 use crate::timing::{way, Way};
+use oboepond::slices;
 use std::cell::RefCell;
 use std::hint::black_box;
 
@@ -15,11 +17,10 @@ pub struct Build {
 }
 
 /// The static library that is linked.
-pub const LINKED: Build = Build { name: "library", calls: raw::LINKED };
+pub const LINKED: Build = Build { name: "library", calls: Calls::Linked };
 
-/// Schemes in the C header.
-const UTF8: u32 = 0;
-const UTF32BE: u32 = 1;
+const UTF8: u32 = oboepond::Scheme::Utf8.number();
+const UTF32BE: u32 = oboepond::Scheme::Utf32Be.number();
 
 /// The lent memory and the record.
 pub struct Lent {
@@ -51,66 +52,62 @@ impl Lent {
     }
 
     pub fn load(&mut self, text: &[u8]) -> u32 {
-        let mut result = [0; 8];
-        let number = self.build.calls.load(text, &mut self.memory, &mut result);
-        for (to, from) in self.record.iter_mut().zip(&result[1..]) {
-            *to = *from as u32;
-        }
-        number
+        self.build.calls.load(text, lent_mut(&mut self.record, &mut self.memory), &mut [0])
+    }
+
+    fn lent(&self) -> slices::Lent<'_> {
+        lent(&self.record, &self.memory)
     }
 
     pub fn check(&self) -> u32 {
-        self.build.calls.check(&self.record, &self.memory)
+        self.build.calls.check(self.lent())
     }
 
     /// Number, bytes read, bytes written. UTF-8 by the calls for it alone.
     pub fn to_unicode(&self, scheme: Scheme, input: &[u8], output: &mut [u8], skip: bool) -> (u32, usize, usize) {
-        let (calls, record, memory, skip) = (&self.build.calls, &self.record, &self.memory, skip as u32);
+        let (calls, table, skip) = (&self.build.calls, self.lent(), skip as u32);
         let mut result = [0; 3];
         let number = match scheme {
-            Scheme::Utf8 => calls.to_utf8(record, memory, input, output, 1, skip, &mut result),
-            Scheme::Utf32Be => calls.to_unicode(record, memory, input, output, UTF32BE, 1, skip, &mut result),
+            Scheme::Utf8 => calls.to_utf8(table, input, output, 1, skip, &mut result),
+            Scheme::Utf32Be => calls.to_unicode(table, input, output, UTF32BE, 1, skip, &mut result),
         };
         (number, result[0] as usize, result[1] as usize)
     }
 
     pub fn from_unicode(&self, scheme: Scheme, input: &[u8], output: &mut [u8], skip: bool) -> (u32, usize, usize) {
-        let (calls, record, memory, skip) = (&self.build.calls, &self.record, &self.memory, skip as u32);
+        let (calls, table, skip) = (&self.build.calls, self.lent(), skip as u32);
         let mut result = [0; 3];
         let number = match scheme {
-            Scheme::Utf8 => calls.from_utf8(record, memory, input, output, 0, 1, skip, &mut result),
-            Scheme::Utf32Be => calls.from_unicode(record, memory, input, output, UTF32BE, 0, 1, skip, &mut result),
+            Scheme::Utf8 => calls.from_utf8(table, input, output, 0, 1, skip, &mut result),
+            Scheme::Utf32Be => calls.from_unicode(table, input, output, UTF32BE, 0, 1, skip, &mut result),
         };
         (number, result[0] as usize, result[1] as usize)
     }
 
     /// One piece of UTF-8, settings as above; all of it must be read. Bytes written.
+    /// Pieces and the audit are those of the linked build.
     pub fn to_utf8_piece(&self, kept: &mut [u32; 5], piece: &[u8], output: &mut [u8]) -> usize {
-        let (calls, record, memory) = (&self.build.calls, &self.record, &self.memory);
         let mut result = [0; 3];
-        let number = calls.to_unicode_piece(record, memory, kept, piece, output, UTF8, 1, 0, &mut result);
+        let number = slices::to_unicode_piece(self.lent(), kept, piece, output, UTF8, 1, 0, &mut result);
         assert_eq!((number, result[0] as usize), (0, piece.len()), "the piece is converted");
         result[1] as usize
     }
 
     pub fn from_utf8_piece(&self, kept: &mut [u32; 5], piece: &[u8], output: &mut [u8]) -> usize {
-        let (calls, record, memory) = (&self.build.calls, &self.record, &self.memory);
         let mut result = [0; 3];
-        let number = calls.from_unicode_piece(record, memory, kept, piece, output, UTF8, 0, 1, 0, &mut result);
+        let number = slices::from_unicode_piece(self.lent(), kept, piece, output, UTF8, 0, 1, 0, &mut result);
         assert_eq!((number, result[0] as usize), (0, piece.len()), "the piece is converted");
         result[1] as usize
     }
 
     /// The closing calls; nothing may be kept.
     pub fn to_utf8_close(&self, kept: &mut [u32; 5]) {
-        let number =
-            self.build.calls.to_unicode_close(&self.record, &self.memory, kept, &mut [], UTF8, 1, 0, &mut [0; 3]);
+        let number = slices::to_unicode_close(self.lent(), kept, &mut [], UTF8, 1, 0, &mut [0; 3]);
         assert_eq!(number, 0, "the text is whole");
     }
 
     pub fn from_utf8_close(&self, kept: &mut [u32; 5]) {
-        let number =
-            self.build.calls.from_unicode_close(&self.record, &self.memory, kept, &mut [], UTF8, 0, 1, 0, &mut [0; 3]);
+        let number = slices::from_unicode_close(self.lent(), kept, &mut [], UTF8, 0, 1, 0, &mut [0; 3]);
         assert_eq!(number, 0, "the text is whole");
     }
 
@@ -119,7 +116,7 @@ impl Lent {
     pub fn audit(&self, position: &mut (u32, u32), allowance: u64, entries: &mut [u64]) -> (usize, u64, bool) {
         let mut result = [0; 5];
         let (bits, len) = *position;
-        let number = self.build.calls.audit(&self.record, &self.memory, 0, bits, len, allowance, entries, &mut result);
+        let number = slices::audit(self.lent(), 0, bits, len, allowance, entries, &mut result);
         assert_eq!(number, 0, "the audit goes on");
         *position = (result[1] as u32, result[2] as u32);
         (result[0] as usize, result[4], result[3] == 1)

@@ -12,9 +12,12 @@
 //! taken; `as left` means as the round before left them.
 
 mod before;
+mod calls;
 mod dynamic;
 mod iconv;
 mod icu;
+#[path = "../../tests/src/lending.rs"]
+mod lending;
 mod library;
 #[path = "../../tests/src/lookups.rs"]
 mod lookups;
@@ -25,11 +28,7 @@ mod peers;
 mod pieces;
 mod pipes;
 mod plain;
-#[path = "../../tests/src/raw.rs"]
-mod raw;
 mod searches;
-#[path = "../../tests/src/sys.rs"]
-mod sys;
 mod texts;
 mod timing;
 

@@ -3,10 +3,12 @@
 //! (71, nothing else happens), settings other than 1.
 
 use crate::cases::{equal, equal_memory, equal_slices, junk, k_void, old_bytes, old_entries, K};
-use crate::oracle::Memory;
-use crate::raw::LINKED;
+use crate::lending::{lent, lent_mut};
+use crate::oracle::{self, Memory};
+use oboepond::slices;
 
 const OLD: u64 = 0x1122_3344_5566_7788;
+const OLD_SMALL: u32 = 0x1122_3344;
 
 /// Values of a setting: off, and what else is on.
 const OFF_AND_ON: [u32; 5] = [0, 1, 2, 256, u32::MAX];
@@ -14,9 +16,10 @@ const OFF_AND_ON: [u32; 5] = [0, 1, 2, 256, u32::MAX];
 pub type AbiCase = (&'static str, fn() -> Result<(), String>);
 
 pub const CASES: &[AbiCase] = &[
-    ("load with a short result: 70", load_short),
-    ("load with a long result", load_long),
-    ("load with a short result goes before 1 and 2: 70", load_short_first),
+    ("load with a short record or result: 70", load_short),
+    ("load with a record and result of any length that is enough", load_long),
+    ("load with a short record or result goes before 1 and 2: 70", load_short_first),
+    ("load, refused: the record is zeros, with 1 and 2 too", load_refused),
     ("check with a short record: 70", check_short),
     ("check with a long record", check_long),
     ("to UTF-8 with a short record or result: 70", to_short),
@@ -46,58 +49,111 @@ pub const CASES: &[AbiCase] = &[
 ];
 
 fn k() -> ([u32; 7], Memory) {
-    let mut memory = junk(1);
-    let mut result = [OLD; 8];
-    let number = LINKED.load(K.as_bytes(), &mut memory, &mut result);
+    let (mut record, mut memory) = ([OLD_SMALL; 7], junk(1));
+    let number = slices::load(K.as_bytes(), lent_mut(&mut record, &mut memory), &mut [OLD]);
     assert_eq!(number, 0, "K is accepted");
-    let mut record = [0; 7];
-    for i in 0..7 {
-        record[i] = result[i + 1] as u32;
-    }
     (record, memory)
 }
 
+/// A text with its number, line and record.
+type ToLoad = (Vec<u8>, u32, u64, [u32; 7]);
+
+fn to_load() -> [ToLoad; 4] {
+    [
+        (K.into(), 0, 0, [2, 6, 1, 2, 0x3f00_0000, 1, 0]),
+        (b"x".into(), 10, 1, [0; 7]),
+        (b"".into(), 27, 1, [0; 7]),
+        (k_void(), 28, 15, [0; 7]),
+    ]
+}
+
+/// The text and memory for 2, and those for 1: each slice one short in turn.
+fn to_refuse() -> Vec<(Vec<u8>, Memory, u32)> {
+    let mut short = [junk(1), junk(0), junk(0), junk(0), junk(0)];
+    short[1].states.pop();
+    short[2].codes.pop();
+    short[3].infos.pop();
+    short[4].order.pop();
+    let long = vec![b'#'; 1_048_577];
+    let [enough, short @ ..] = short;
+    let ones = short.into_iter().chain([Memory::default()]).map(|memory| (K.into(), memory, 1));
+    ones.chain([(long, enough, 2)]).collect()
+}
+
+/// Lengths of record and result around the needed ones.
+fn load_lengths() -> impl Iterator<Item = (usize, usize)> {
+    (0..=8).chain([20]).flat_map(|n| [0, 1, 2, 9].map(|m| (n, m)))
+}
+
+fn is_enough((n, m): &(usize, usize)) -> bool {
+    *n >= 7 && *m >= 1
+}
+
+/// 70: nothing is written anywhere.
+fn refused_for_length(text: &[u8], memory: &Memory, (n, m): (usize, usize)) -> Result<(), String> {
+    let (mut record, mut after, mut result) = (vec![OLD_SMALL; n], memory.clone(), vec![OLD; m]);
+    let number = slices::load(text, lent_mut(&mut record, &mut after), &mut result);
+    equal(&format!("lengths {n} {m}"), number, 70)?;
+    equal_slices("record", &record, &vec![OLD_SMALL; n])?;
+    equal_slices("result", &result, &vec![OLD; m])?;
+    equal_memory(&after, memory)
+}
+
+/// The answer in the needed places, and old values behind them; the memory is
+/// the oracle's.
+fn loads_as(to_load: &ToLoad, memory: &Memory, (n, m): (usize, usize)) -> Result<(), String> {
+    let (text, number, line, told) = to_load;
+    let (mut record, mut after, mut result) = (vec![OLD_SMALL; n], memory.clone(), vec![OLD; m]);
+    let got = slices::load(text, lent_mut(&mut record, &mut after), &mut result);
+    equal(&format!("lengths {n} {m}"), (got, result[0]), (*number, *line))?;
+    equal_slices("record", &record[..7], told)?;
+    equal_slices("record behind", &record[7..], &vec![OLD_SMALL; n - 7])?;
+    equal_slices("result behind", &result[1..], &vec![OLD; m - 1])?;
+    let mut want = memory.clone();
+    oracle::load(text, &mut want);
+    equal_memory(&after, &want)
+}
+
 fn load_short() -> Result<(), String> {
-    for n in 0..8 {
-        for text in [K.as_bytes(), b"", b"x", &k_void()] {
-            let mut memory = junk(1);
-            let mut result = vec![OLD; n];
-            equal("number", LINKED.load(text, &mut memory, &mut result), 70)?;
-            equal_slices("result", &result, &vec![OLD; n])?;
-            equal_memory(&memory, &junk(1))?;
+    for lengths in load_lengths().filter(|lengths| !is_enough(lengths)) {
+        for (text, ..) in to_load() {
+            refused_for_length(&text, &junk(1), lengths)?;
         }
     }
     Ok(())
 }
 
 fn load_long() -> Result<(), String> {
-    for (text, number, first) in [
-        (K.as_bytes(), 0, [0, 2, 6, 1, 2, 0x3f00_0000, 1, 0]),
-        (b"x", 10, [1, 0, 0, 0, 0, 0, 0, 0]),
-        (b"", 27, [1, 0, 0, 0, 0, 0, 0, 0]),
-        (&k_void(), 28, [15, 0, 0, 0, 0, 0, 0, 0]),
-    ] {
-        let mut memory = junk(1);
-        let mut result = vec![OLD; 20];
-        equal("number", LINKED.load(text, &mut memory, &mut result), number)?;
-        equal_slices("result", &result[..8], &first)?;
-        equal_slices("result behind", &result[8..], &[OLD; 12])?;
+    for lengths in load_lengths().filter(is_enough) {
+        for to_load in to_load() {
+            loads_as(&to_load, &junk(1), lengths)?;
+        }
     }
     Ok(())
 }
 
 fn load_short_first() -> Result<(), String> {
-    let mut memory = Memory::default();
-    equal("short slices", LINKED.load(K.as_bytes(), &mut memory, &mut [OLD; 7]), 70)?;
-    let mut memory = junk(1);
-    let long = vec![b'#'; 1_048_577];
-    equal("long text", LINKED.load(&long, &mut memory, &mut [OLD; 7]), 70)
+    for (text, memory, _) in to_refuse() {
+        for lengths in load_lengths().filter(|lengths| !is_enough(lengths)) {
+            refused_for_length(&text, &memory, lengths)?;
+        }
+    }
+    Ok(())
+}
+
+fn load_refused() -> Result<(), String> {
+    for (text, memory, number) in to_refuse() {
+        for lengths in load_lengths().filter(is_enough) {
+            loads_as(&(text.clone(), number, 0, [0; 7]), &memory, lengths)?;
+        }
+    }
+    Ok(())
 }
 
 fn check_short() -> Result<(), String> {
     let (record, memory) = k();
     for n in 0..7 {
-        equal("number", LINKED.check(&record[..n], &memory), 70)?;
+        equal("number", slices::check(lent(&record[..n], &memory)), 70)?;
     }
     Ok(())
 }
@@ -105,9 +161,9 @@ fn check_short() -> Result<(), String> {
 fn check_long() -> Result<(), String> {
     let (record, memory) = k();
     let long = [&record[..], &[1, 2, 3]].concat();
-    equal("number", LINKED.check(&long, &memory), 0)?;
+    equal("number", slices::check(lent(&long, &memory)), 0)?;
     let long = [&[0; 7][..], &record[..]].concat();
-    equal("number", LINKED.check(&long, &memory), 60)
+    equal("number", slices::check(lent(&long, &memory)), 60)
 }
 
 fn to_short() -> Result<(), String> {
@@ -115,7 +171,7 @@ fn to_short() -> Result<(), String> {
     for (n, m, skip) in short_and_not() {
         let mut output = old_bytes(9);
         let mut result = vec![OLD; m];
-        let got = LINKED.to_utf8(&record[..n], &memory, b"\x81\x7c3", &mut output, 1, skip, &mut result);
+        let got = slices::to_utf8(lent(&record[..n], &memory), b"\x81\x7c3", &mut output, 1, skip, &mut result);
         if n < 7 || m < 3 {
             equal("number", got, 70)?;
             equal_slices("result", &result, &vec![OLD; m])?;
@@ -140,7 +196,7 @@ fn to_long() -> Result<(), String> {
         let (number, first) = if substitute == 0 { (53, [0, 0, 0]) } else { (0, [1, 3, 0]) };
         let mut output = old_bytes(9);
         let mut result = vec![OLD; 7];
-        let got = LINKED.to_utf8(&long, &memory, b"\x3f", &mut output, substitute, skip, &mut result);
+        let got = slices::to_utf8(lent(&long, &memory), b"\x3f", &mut output, substitute, skip, &mut result);
         equal("number", got, number)?;
         equal_slices("result", &result[..3], &first)?;
         equal_slices("result behind", &result[3..], &[OLD; 4])?;
@@ -153,7 +209,7 @@ fn from_short() -> Result<(), String> {
     for (n, m, skip) in short_and_not() {
         let mut output = old_bytes(9);
         let mut result = vec![OLD; m];
-        let got = LINKED.from_utf8(&record[..n], &memory, b"33", &mut output, 1, 1, skip, &mut result);
+        let got = slices::from_utf8(lent(&record[..n], &memory), b"33", &mut output, 1, 1, skip, &mut result);
         if n < 7 || m < 3 {
             equal("number", got, 70)?;
             equal_slices("result", &result, &vec![OLD; m])?;
@@ -174,7 +230,8 @@ fn from_long() -> Result<(), String> {
         for (substitute, skip) in OFF_AND_ON.into_iter().flat_map(|s| [(s, 0), (s, 1)]) {
             let mut output = old_bytes(9);
             let mut result = vec![OLD; 7];
-            let got = LINKED.from_utf8(&long, &memory, input, &mut output, fallback, substitute, skip, &mut result);
+            let got =
+                slices::from_utf8(lent(&long, &memory), input, &mut output, fallback, substitute, skip, &mut result);
             let (number, first, out): (u32, [u64; 3], &[u8]) = match (fallback, substitute) {
                 (0, 0) => (53, [0, 0, 0], b""),
                 (0, _) => (0, [3, 1, 0], b"\x3f"),
@@ -207,7 +264,7 @@ fn to_unicode_short() -> Result<(), String> {
             let mut output = old_bytes(15);
             let mut result = vec![OLD; m];
             let input = b"\x81\x7c3";
-            let got = LINKED.to_unicode(&record[..n], &memory, input, &mut output, scheme, 1, skip, &mut result);
+            let got = slices::to_unicode(lent(&record[..n], &memory), input, &mut output, scheme, 1, skip, &mut result);
             if n < 7 || m < 3 {
                 equal("number", got, 70)?;
                 equal_slices("result", &result, &vec![OLD; m])?;
@@ -237,7 +294,8 @@ fn to_unicode_long() -> Result<(), String> {
         for (substitute, skip) in OFF_AND_ON.into_iter().flat_map(|s| [(s, 0), (s, 1)]) {
             let mut output = old_bytes(9);
             let mut result = vec![OLD; 7];
-            let got = LINKED.to_unicode(&long, &memory, b"\x3f", &mut output, scheme, substitute, skip, &mut result);
+            let got =
+                slices::to_unicode(lent(&long, &memory), b"\x3f", &mut output, scheme, substitute, skip, &mut result);
             let (number, read, out) = match substitute {
                 0 => (53, 0, mark.to_vec()),
                 _ => (0, 1, [mark, substituted].concat()),
@@ -258,7 +316,8 @@ fn from_unicode_short() -> Result<(), String> {
         for (n, m, skip) in short_and_not() {
             let mut output = old_bytes(9);
             let mut result = vec![OLD; m];
-            let got = LINKED.from_unicode(&record[..n], &memory, chars, &mut output, scheme, 1, 1, skip, &mut result);
+            let got =
+                slices::from_unicode(lent(&record[..n], &memory), chars, &mut output, scheme, 1, 1, skip, &mut result);
             if n < 7 || m < 3 {
                 equal("number", got, 70)?;
                 equal_slices("result", &result, &vec![OLD; m])?;
@@ -289,7 +348,8 @@ fn from_unicode_long() -> Result<(), String> {
             for (substitute, skip) in OFF_AND_ON.into_iter().flat_map(|s| [(s, 0), (s, 1)]) {
                 let (mut output, mut result) = (old_bytes(9), vec![OLD; 7]);
                 let (f, s) = (fallback, substitute);
-                let got = LINKED.from_unicode(&long, &memory, input, &mut output, scheme, f, s, skip, &mut result);
+                let got =
+                    slices::from_unicode(lent(&long, &memory), input, &mut output, scheme, f, s, skip, &mut result);
                 let all = input.len() as u64;
                 let (number, first, out): (u32, [u64; 3], &[u8]) = match (fallback, substitute) {
                     (0, 0) => (53, [mark, 0, 0], b""),
@@ -314,7 +374,7 @@ fn to_no_scheme() -> Result<(), String> {
         for (record, memory) in [(record, &memory), ([0; 7], &memory), (record, &Memory::default())] {
             for (input, space) in [(&b"\x81\x7c3"[..], 15), (b"\x81\x7c3", 3), (b"", 9), (b"", 0), (b"\xff", 9)] {
                 let (mut output, mut result) = (old_bytes(space), [OLD; 4]);
-                let got = LINKED.to_unicode(&record, memory, input, &mut output, scheme, 1, skip, &mut result);
+                let got = slices::to_unicode(lent(&record, memory), input, &mut output, scheme, 1, skip, &mut result);
                 equal(&format!("number for {scheme}"), got, 71)?;
                 equal_slices("result", &result, &[OLD; 4])?;
                 equal_slices("output", &output, &old_bytes(space))?;
@@ -330,7 +390,8 @@ fn from_no_scheme() -> Result<(), String> {
         for (record, memory) in [(record, &memory), ([0; 7], &memory), (record, &Memory::default())] {
             for (input, space) in [(&b"33"[..], 9), (b"\x00\x00\x003", 9), (b"33", 0), (b"", 0), (b"\xff", 9)] {
                 let (mut output, mut result) = (old_bytes(space), [OLD; 4]);
-                let got = LINKED.from_unicode(&record, memory, input, &mut output, scheme, 1, 1, skip, &mut result);
+                let got =
+                    slices::from_unicode(lent(&record, memory), input, &mut output, scheme, 1, 1, skip, &mut result);
                 equal(&format!("number for {scheme}"), got, 71)?;
                 equal_slices("result", &result, &[OLD; 4])?;
                 equal_slices("output", &output, &old_bytes(space))?;
@@ -345,26 +406,26 @@ fn order_of_refusals() -> Result<(), String> {
     for (scheme, skip) in NO_SCHEMES.into_iter().flat_map(|scheme| [(scheme, 0), (scheme, 1)]) {
         for (record, m) in [(&[0; 6][..], 3), (&[0; 7], 2), (&[0; 7], 1), (&[0; 7], 0), (&[], 3)] {
             let mut result = vec![OLD; m];
-            let got = LINKED.to_unicode(record, &none, b"3", &mut [], scheme, 0, skip, &mut result);
+            let got = slices::to_unicode(lent(record, &none), b"3", &mut [], scheme, 0, skip, &mut result);
             equal("to Unicode", got, 70)?;
-            let got = LINKED.from_unicode(record, &none, b"3", &mut [], scheme, 0, 0, skip, &mut result);
+            let got = slices::from_unicode(lent(record, &none), b"3", &mut [], scheme, 0, 0, skip, &mut result);
             equal("from Unicode", got, 70)?;
             equal_slices("result", &result, &vec![OLD; m])?;
         }
-        let got = LINKED.to_unicode(&[0; 7], &none, b"3", &mut [], scheme, 0, skip, &mut [OLD; 3]);
+        let got = slices::to_unicode(lent(&[0; 7], &none), b"3", &mut [], scheme, 0, skip, &mut [OLD; 3]);
         equal("to Unicode", got, 71)?;
-        let got = LINKED.from_unicode(&[0; 7], &none, b"3", &mut [], scheme, 0, 0, skip, &mut [OLD; 3]);
+        let got = slices::from_unicode(lent(&[0; 7], &none), b"3", &mut [], scheme, 0, 0, skip, &mut [OLD; 3]);
         equal("from Unicode", got, 71)?;
     }
     for (scheme, skip) in (0..4).flat_map(|scheme| [(scheme, 0), (scheme, 1)]) {
         for space in [0, 3, 9] {
             let (mut output, mut result) = (old_bytes(space), [OLD; 3]);
-            let got = LINKED.to_unicode(&[0; 7], &none, b"\xff", &mut output, scheme, 0, skip, &mut result);
+            let got = slices::to_unicode(lent(&[0; 7], &none), b"\xff", &mut output, scheme, 0, skip, &mut result);
             equal("to Unicode", got, 60)?;
             equal_slices("result", &result, &[0, 0, 0])?;
             result = [OLD; 3];
             let mark = b"\x00\x00\xfe\xff";
-            let got = LINKED.from_unicode(&[0; 7], &none, mark, &mut output, scheme, 0, 0, skip, &mut result);
+            let got = slices::from_unicode(lent(&[0; 7], &none), mark, &mut output, scheme, 0, 0, skip, &mut result);
             equal("from Unicode", got, 60)?;
             equal_slices("result", &result, &[0, 0, 0])?;
             equal_slices("output", &output, &old_bytes(space))?;
@@ -394,14 +455,14 @@ fn to_skipping() -> Result<(), String> {
             let mut want = old_bytes(20);
             want[..out.len()].copy_from_slice(&out);
             let (mut output, mut result) = (old_bytes(20), vec![OLD; 7]);
-            let got = LINKED.to_unicode(&record, &memory, input, &mut output, scheme, 0, skip, &mut result);
+            let got = slices::to_unicode(lent(&record, &memory), input, &mut output, scheme, 0, skip, &mut result);
             equal(&format!("number, scheme {scheme}, skip {skip}"), got, number)?;
             equal_slices("result", &result[..3], &first)?;
             equal_slices("result behind", &result[3..], &[OLD; 4])?;
             equal_slices("output", &output, &want)?;
             if scheme == 0 {
                 let (mut output, mut result) = (old_bytes(20), vec![OLD; 7]);
-                let got = LINKED.to_utf8(&record, &memory, input, &mut output, 0, skip, &mut result);
+                let got = slices::to_utf8(lent(&record, &memory), input, &mut output, 0, skip, &mut result);
                 equal(&format!("number to UTF-8, skip {skip}"), got, number)?;
                 equal_slices("result", &result[..3], &first)?;
                 equal_slices("result behind", &result[3..], &[OLD; 4])?;
@@ -431,14 +492,14 @@ fn from_skipping() -> Result<(), String> {
             let mut want = old_bytes(9);
             want[..out.len()].copy_from_slice(out);
             let (mut output, mut result) = (old_bytes(9), vec![OLD; 7]);
-            let got = LINKED.from_unicode(&record, &memory, input, &mut output, scheme, 0, 0, skip, &mut result);
+            let got = slices::from_unicode(lent(&record, &memory), input, &mut output, scheme, 0, 0, skip, &mut result);
             equal(&format!("number, scheme {scheme}, skip {skip}"), got, number)?;
             equal_slices("result", &result[..3], &first)?;
             equal_slices("result behind", &result[3..], &[OLD; 4])?;
             equal_slices("output", &output, &want)?;
             if scheme == 0 {
                 let (mut output, mut result) = (old_bytes(9), vec![OLD; 7]);
-                let got = LINKED.from_utf8(&record, &memory, input, &mut output, 0, 0, skip, &mut result);
+                let got = slices::from_utf8(lent(&record, &memory), input, &mut output, 0, 0, skip, &mut result);
                 equal(&format!("number from UTF-8, skip {skip}"), got, number)?;
                 equal_slices("result", &result[..3], &first)?;
                 equal_slices("result behind", &result[3..], &[OLD; 4])?;
@@ -468,7 +529,7 @@ fn lengths() -> Result<(), String> {
     ];
     for (frame, space, skip, number, want) in frames {
         let mut result = [OLD; 3];
-        let got = LINKED.to_utf8(&record, &memory, frame, &mut old_bytes(space), 0, skip, &mut result);
+        let got = slices::to_utf8(lent(&record, &memory), frame, &mut old_bytes(space), 0, skip, &mut result);
         equal(&format!("to UTF-8, {frame:02x?}"), (got, result), (number, want))?;
     }
     let texts: [Told; 7] = [
@@ -482,7 +543,7 @@ fn lengths() -> Result<(), String> {
     ];
     for (text, space, skip, number, want) in texts {
         let mut result = [OLD; 3];
-        let got = LINKED.from_utf8(&record, &memory, text, &mut old_bytes(space), 0, 0, skip, &mut result);
+        let got = slices::from_utf8(lent(&record, &memory), text, &mut old_bytes(space), 0, 0, skip, &mut result);
         equal(&format!("from UTF-8, {text:02x?}"), (got, result), (number, want))?;
     }
     Ok(())
@@ -496,12 +557,19 @@ fn order_of_settings() -> Result<(), String> {
         for (frame, on, off) in [(b"\x3f", substitute, 53), (b"\xff", skip, 52)] {
             let number = if on == 1 { 0 } else { off };
             let mut result = [OLD; 3];
-            let got = LINKED.to_utf8(&record, &memory, frame, &mut old_bytes(9), substitute, skip, &mut result);
+            let got = slices::to_utf8(lent(&record, &memory), frame, &mut old_bytes(9), substitute, skip, &mut result);
             equal(&format!("to UTF-8, {frame:02x?}, {substitute} {skip}"), got, number)?;
             for scheme in 0..4 {
                 let mut output = old_bytes(9);
-                let got =
-                    LINKED.to_unicode(&record, &memory, frame, &mut output, scheme, substitute, skip, &mut result);
+                let got = slices::to_unicode(
+                    lent(&record, &memory),
+                    frame,
+                    &mut output,
+                    scheme,
+                    substitute,
+                    skip,
+                    &mut result,
+                );
                 equal(&format!("to Unicode, {frame:02x?}, {substitute} {skip}"), got, number)?;
             }
         }
@@ -519,11 +587,12 @@ fn order_of_settings() -> Result<(), String> {
             let number = if on == 1 { 0 } else { off };
             let what = format!("{text:02x?}, {fallback} {substitute} {skip}");
             let (mut output, mut result) = (old_bytes(9), [OLD; 3]);
-            let got = LINKED.from_utf8(&record, &memory, text, &mut output, fallback, substitute, skip, &mut result);
+            let got =
+                slices::from_utf8(lent(&record, &memory), text, &mut output, fallback, substitute, skip, &mut result);
             equal(&format!("from UTF-8, {what}"), got, number)?;
             let (mut other, mut second) = (old_bytes(9), [OLD; 3]);
             let (f, s) = (fallback, substitute);
-            let same = LINKED.from_unicode(&record, &memory, text, &mut other, 0, f, s, skip, &mut second);
+            let same = slices::from_unicode(lent(&record, &memory), text, &mut other, 0, f, s, skip, &mut second);
             equal(&format!("from Unicode, {what}"), (same, second, &other), (got, result, &output))?;
             if number == 0 {
                 equal_slices(&what, &output[..out.len()], out)?;
@@ -540,27 +609,25 @@ type InPieces = fn(&[u32], &Memory, &mut [u32], &[u8], &mut [u8], [u32; 4], &mut
 
 const IN_PIECES: [(&str, InPieces); 4] = [
     ("to Unicode, a piece", |r, m, k, i, o, [scheme, _, s, skip], result| {
-        LINKED.to_unicode_piece(r, m, k, i, o, scheme, s, skip, result)
+        slices::to_unicode_piece(lent(r, m), k, i, o, scheme, s, skip, result)
     }),
     ("from Unicode, a piece", |r, m, k, i, o, [scheme, f, s, skip], result| {
-        LINKED.from_unicode_piece(r, m, k, i, o, scheme, f, s, skip, result)
+        slices::from_unicode_piece(lent(r, m), k, i, o, scheme, f, s, skip, result)
     }),
     ("to Unicode, close", |r, m, k, _, o, [scheme, _, s, skip], result| {
-        LINKED.to_unicode_close(r, m, k, o, scheme, s, skip, result)
+        slices::to_unicode_close(lent(r, m), k, o, scheme, s, skip, result)
     }),
     ("from Unicode, close", |r, m, k, _, o, [scheme, f, s, skip], result| {
-        LINKED.from_unicode_close(r, m, k, o, scheme, f, s, skip, result)
+        slices::from_unicode_close(lent(r, m), k, o, scheme, f, s, skip, result)
     }),
 ];
-
-const OLD_KEPT: u32 = 0x1122_3344;
 
 /// Nothing happens where one of the three is too short, whatever the values.
 fn pieces_short() -> Result<(), String> {
     let (record, memory) = k();
     let lengths = (0..=7).flat_map(|n| (0..=5).flat_map(move |k| (0..=3).map(move |m| (n, k, m))));
     for ((n, k, m), (name, call)) in lengths.flat_map(|lengths| IN_PIECES.map(|call| (lengths, call))) {
-        for (scheme, old) in [(0, 0), (0, OLD_KEPT), (1, 0), (3, 0), (4, 0)] {
+        for (scheme, old) in [(0, 0), (0, OLD_SMALL), (1, 0), (3, 0), (4, 0)] {
             let (mut kept, mut output, mut result) = (vec![old; k], old_bytes(9), vec![OLD; m]);
             let got = call(&record[..n], &memory, &mut kept, b"", &mut output, [scheme, 0, 0, 0], &mut result);
             let what = format!("{name}, lengths {n} {k} {m}");
@@ -588,7 +655,7 @@ fn pieces_long() -> Result<(), String> {
         let bad = if skip == 0 { (52, [0, 0, 2]) } else { (0, [1, 3, 0]) };
         for (first, second, want) in [(&b""[..], b"\x3f", sub), (b"\x81", b"\xff", bad)] {
             let set = [0, 0, substitute, skip];
-            let mut kept = [[0; 5].as_slice(), &[OLD_KEPT; 3]].concat();
+            let mut kept = [[0; 5].as_slice(), &[OLD_SMALL; 3]].concat();
             let (mut output, mut result) = (old_bytes(9), vec![OLD; 7]);
             to(&long, &memory, &mut kept, first, &mut output, set, &mut result);
             let got = to(&long, &memory, &mut kept, second, &mut output, set, &mut result);
@@ -596,7 +663,7 @@ fn pieces_long() -> Result<(), String> {
             let got = to_close(&long, &memory, &mut kept, b"", &mut output, set, &mut result);
             equal("close", (got, result[2]), (want.0, want.1[2]))?;
             equal_slices("result behind", &result[3..], &[OLD; 4])?;
-            equal_slices("kept behind", &kept[5..], &[OLD_KEPT; 3])?;
+            equal_slices("kept behind", &kept[5..], &[OLD_SMALL; 3])?;
         }
     }
     let settings = (0..125).map(|i| [OFF_AND_ON[i / 25], OFF_AND_ON[i / 5 % 5], OFF_AND_ON[i % 5]]);
@@ -613,7 +680,7 @@ fn pieces_long() -> Result<(), String> {
             [(&b"\xef\xbc"[..], b"\x8d", wide), (b"\xc3", b"\xa9", none), (b"\xe2\x88", b"\xff", bad)]
         {
             let set = [0, fallback, substitute, skip];
-            let mut kept = [[0; 5].as_slice(), &[OLD_KEPT; 3]].concat();
+            let mut kept = [[0; 5].as_slice(), &[OLD_SMALL; 3]].concat();
             let (mut output, mut result) = (old_bytes(9), vec![OLD; 7]);
             from(&long, &memory, &mut kept, first, &mut output, set, &mut result);
             let got = from(&long, &memory, &mut kept, second, &mut output, set, &mut result);
@@ -621,7 +688,7 @@ fn pieces_long() -> Result<(), String> {
             let got = from_close(&long, &memory, &mut kept, b"", &mut output, set, &mut result);
             equal("close", (got, result[2]), (want.0, want.1[2]))?;
             equal_slices("result behind", &result[3..], &[OLD; 4])?;
-            equal_slices("kept behind", &kept[5..], &[OLD_KEPT; 3])?;
+            equal_slices("kept behind", &kept[5..], &[OLD_SMALL; 3])?;
         }
     }
     Ok(())
@@ -632,7 +699,8 @@ fn pieces_no_scheme() -> Result<(), String> {
     let (record, memory) = k();
     for (scheme, (name, call)) in NO_SCHEMES.into_iter().flat_map(|scheme| IN_PIECES.map(|call| (scheme, call))) {
         for (record, memory) in [(record, &memory), ([0; 7], &memory), (record, &Memory::default())] {
-            for (old, input, space) in [(0, &b"33"[..], 9), (OLD_KEPT, b"33", 9), (0, b"", 0), (OLD_KEPT, b"\xff", 0)] {
+            for (old, input, space) in [(0, &b"33"[..], 9), (OLD_SMALL, b"33", 9), (0, b"", 0), (OLD_SMALL, b"\xff", 0)]
+            {
                 let (mut kept, mut output, mut result) = ([old; 6], old_bytes(space), [OLD; 4]);
                 let got = call(&record, memory, &mut kept, input, &mut output, [scheme, 1, 1, 1], &mut result);
                 equal(&format!("{name}, number for {scheme}"), got, 71)?;
@@ -659,12 +727,12 @@ fn pieces_order() -> Result<(), String> {
             (&record, &memory, 5, 3, 3, 42),
         ];
         for (record, memory, k, scheme, m, number) in refused {
-            let (mut kept, mut output, mut result) = (vec![OLD_KEPT; k], old_bytes(9), vec![OLD; m]);
+            let (mut kept, mut output, mut result) = (vec![OLD_SMALL; k], old_bytes(9), vec![OLD; m]);
             let got = call(record, memory, &mut kept, b"3", &mut output, [scheme, 0, 0, 0], &mut result);
             equal(name, got, number)?;
             let result_of = if number < 70 { 0 } else { OLD };
             equal_slices(&format!("{name}, {number}, result"), &result, &vec![result_of; m])?;
-            equal_slices(&format!("{name}, {number}, kept"), &kept, &vec![OLD_KEPT; k])?;
+            equal_slices(&format!("{name}, {number}, kept"), &kept, &vec![OLD_SMALL; k])?;
             equal_slices(&format!("{name}, {number}, output"), &output, &old_bytes(9))?;
         }
     }
@@ -742,7 +810,7 @@ fn audit_short() -> Result<(), String> {
         for m in 0..=5 {
             let mut entries = old_entries(9);
             let mut result = vec![OLD; m];
-            let got = LINKED.audit(&record[..n], &memory, 0, 0, 0, 99, &mut entries, &mut result);
+            let got = slices::audit(lent(&record[..n], &memory), 0, 0, 0, 99, &mut entries, &mut result);
             if n < 7 || m < 5 {
                 equal("number", got, 70)?;
                 equal_slices("result", &result, &vec![OLD; m])?;
@@ -759,11 +827,8 @@ fn audit_long() -> Result<(), String> {
     // 35 comes home only with fallback on.
     let text = b"<code_set_name> \"t\"\n<mb_cur_min> 1\n<mb_cur_max> 1\n<uconv_class> \"MBCS\"\n\
         <subchar> \\x35\n<icu:state> 35\nCHARMAP\n<U0035> \\x35 |3\n<U0035> \\x35 |1\nEND CHARMAP\n";
-    let mut memory = junk(1);
-    let mut result = [OLD; 8];
-    equal("load", LINKED.load(text, &mut memory, &mut result), 0)?;
-    let mut record: Vec<u32> = result[1..].iter().map(|&v| v as u32).collect();
-    record.extend([9; 5]);
+    let (mut record, mut memory) = ([9; 12], junk(1));
+    equal("load", slices::load(text, lent_mut(&mut record, &mut memory), &mut [OLD]), 0)?;
     for (fallback, first) in [
         (0, [1, 0x3500_0000, 1, 1, 1]),
         (1, [0, 0x3500_0000, 1, 1, 1]),
@@ -772,7 +837,7 @@ fn audit_long() -> Result<(), String> {
     ] {
         let mut entries = old_entries(3);
         let mut result = vec![OLD; 9];
-        let got = LINKED.audit(&record, &memory, fallback, 0, 0, 9, &mut entries, &mut result);
+        let got = slices::audit(lent(&record, &memory), fallback, 0, 0, 9, &mut entries, &mut result);
         equal("number", got, 0)?;
         equal_slices("result", &result[..5], &first)?;
         equal_slices("result behind", &result[5..], &[OLD; 4])?;
@@ -782,18 +847,18 @@ fn audit_long() -> Result<(), String> {
 
 fn short_before_60() -> Result<(), String> {
     let none = Memory::default();
-    equal("check", LINKED.check(&[0; 6], &none), 70)?;
+    equal("check", slices::check(lent(&[0; 6], &none)), 70)?;
     for skip in [0, 1] {
-        let got = LINKED.to_utf8(&[0; 7], &none, b"", &mut [], 0, skip, &mut [OLD; 2]);
+        let got = slices::to_utf8(lent(&[0; 7], &none), b"", &mut [], 0, skip, &mut [OLD; 2]);
         equal("to UTF-8", got, 70)?;
-        let got = LINKED.from_utf8(&[0; 6], &none, b"", &mut [], 0, 0, skip, &mut [OLD; 3]);
+        let got = slices::from_utf8(lent(&[0; 6], &none), b"", &mut [], 0, 0, skip, &mut [OLD; 3]);
         equal("from UTF-8", got, 70)?;
         for scheme in 0..4 {
-            let got = LINKED.to_unicode(&[0; 6], &none, b"", &mut [], scheme, 0, skip, &mut [OLD; 3]);
+            let got = slices::to_unicode(lent(&[0; 6], &none), b"", &mut [], scheme, 0, skip, &mut [OLD; 3]);
             equal("to Unicode", got, 70)?;
-            let got = LINKED.from_unicode(&[0; 7], &none, b"", &mut [], scheme, 0, 0, skip, &mut [OLD; 2]);
+            let got = slices::from_unicode(lent(&[0; 7], &none), b"", &mut [], scheme, 0, 0, skip, &mut [OLD; 2]);
             equal("from Unicode", got, 70)?;
         }
     }
-    equal("audit", LINKED.audit(&[0; 7], &none, 0, 9, 9, 0, &mut [], &mut [OLD; 4]), 70)
+    equal("audit", slices::audit(lent(&[0; 7], &none), 0, 9, 9, 0, &mut [], &mut [OLD; 4]), 70)
 }

@@ -1,9 +1,10 @@
 //! The library as a test subject.
 
 use crate::cases::{equal, equal_slices};
+use crate::lending::{lent, lent_mut};
 use crate::oracle::{Audited, Kept, Loaded, Memory, Pipe, Piped, Record, Scheme, Settings, Way};
-use crate::raw::LINKED;
 use crate::subject::Subject;
+use oboepond::slices;
 
 /// Each slice for a result, or for what is kept, is three places longer than
 /// needed; a change behind the needed places is a failure at once.
@@ -55,18 +56,15 @@ impl Subject for Library {
     }
 
     fn load(&self, text: &[u8], memory: &mut Memory) -> Loaded {
-        let mut result = [CANARY; 11];
-        let number = LINKED.load(text, memory, &mut result);
-        let r: [u64; 8] = checked(&result);
-        let mut record = [0; 7];
-        for (to, from) in record.iter_mut().zip(&r[1..]) {
-            *to = narrow(*from, "a number of the record");
-        }
-        Loaded { number, line: r[0], record }
+        let (mut record, mut result) = ([SMALL_CANARY; 10], [CANARY; 4]);
+        let number = slices::load(text, lent_mut(&mut record, memory), &mut result);
+        let [line] = checked(&result);
+        assert!(record[7..] == [SMALL_CANARY; 3], "record slice: places behind were changed");
+        Loaded { number, line, record: record[..7].try_into().expect("seven places") }
     }
 
     fn check(&self, record: &Record, memory: &Memory) -> u32 {
-        LINKED.check(record, memory)
+        slices::check(lent(record, memory))
     }
 
     fn to_unicode(
@@ -80,9 +78,10 @@ impl Subject for Library {
     ) -> Piped {
         let (number, substitute, skip) = (number_of(scheme), settings.substitute as u32, settings.skip as u32);
         let mut other = output.to_vec();
-        let got = piped(|result| LINKED.to_unicode(record, memory, input, output, number, substitute, skip, result));
+        let table = lent(record, memory);
+        let got = piped(|result| slices::to_unicode(table, input, output, number, substitute, skip, result));
         if scheme == Scheme::Utf8 {
-            let alone = piped(|result| LINKED.to_utf8(record, memory, input, &mut other, substitute, skip, result));
+            let alone = piped(|result| slices::to_utf8(table, input, &mut other, substitute, skip, result));
             same_for_utf8((got, output), (alone, &other));
         }
         got
@@ -100,12 +99,11 @@ impl Subject for Library {
         let number = number_of(scheme);
         let (fallback, substitute, skip) = (settings.fallback as u32, settings.substitute as u32, settings.skip as u32);
         let mut other = output.to_vec();
-        let got = piped(|result| {
-            LINKED.from_unicode(record, memory, input, output, number, fallback, substitute, skip, result)
-        });
+        let table = lent(record, memory);
+        let got =
+            piped(|result| slices::from_unicode(table, input, output, number, fallback, substitute, skip, result));
         if scheme == Scheme::Utf8 {
-            let alone =
-                piped(|result| LINKED.from_utf8(record, memory, input, &mut other, fallback, substitute, skip, result));
+            let alone = piped(|result| slices::from_utf8(table, input, &mut other, fallback, substitute, skip, result));
             same_for_utf8((got, output), (alone, &other));
         }
         got
@@ -120,16 +118,18 @@ impl Subject for Library {
         piece: Option<&[u8]>,
         output: &mut [u8],
     ) -> Piped {
-        let (c, r, m, scheme) = (LINKED, record, memory, number_of(pipe.scheme));
+        let (table, scheme) = (lent(record, memory), number_of(pipe.scheme));
         let (f, s) = (pipe.settings.fallback as u32, pipe.settings.substitute as u32);
         let skip = pipe.settings.skip as u32;
         let mut k = [SMALL_CANARY; 8];
         k[..5].copy_from_slice(kept);
         let got = piped(|result| match (pipe.way, piece) {
-            (Way::To, Some(input)) => c.to_unicode_piece(r, m, &mut k, input, output, scheme, s, skip, result),
-            (Way::From, Some(input)) => c.from_unicode_piece(r, m, &mut k, input, output, scheme, f, s, skip, result),
-            (Way::To, None) => c.to_unicode_close(r, m, &mut k, output, scheme, s, skip, result),
-            (Way::From, None) => c.from_unicode_close(r, m, &mut k, output, scheme, f, s, skip, result),
+            (Way::To, Some(input)) => slices::to_unicode_piece(table, &mut k, input, output, scheme, s, skip, result),
+            (Way::From, Some(input)) => {
+                slices::from_unicode_piece(table, &mut k, input, output, scheme, f, s, skip, result)
+            }
+            (Way::To, None) => slices::to_unicode_close(table, &mut k, output, scheme, s, skip, result),
+            (Way::From, None) => slices::from_unicode_close(table, &mut k, output, scheme, f, s, skip, result),
         });
         assert!(k[5..] == [SMALL_CANARY; 3], "kept slice: places behind were changed");
         kept.copy_from_slice(&k[..5]);
@@ -147,7 +147,7 @@ impl Subject for Library {
         space: &mut [u64],
     ) -> Audited {
         let mut result = [CANARY; 8];
-        let number = LINKED.audit(record, memory, fallback as u32, bits, len, allowance, space, &mut result);
+        let number = slices::audit(lent(record, memory), fallback as u32, bits, len, allowance, space, &mut result);
         let [entries, bits, len, finished, count] = checked(&result);
         assert!(finished <= 1, "finished is neither 0 nor 1: {finished}");
         Audited {

@@ -24,11 +24,12 @@
 use crate::abi::AbiCase;
 use crate::cases::{equal, equal_slices};
 use crate::gen::{cells, full_table, random_code, random_cp, random_lines, text_of, Entry, Filler, Made, Rng};
+use crate::lending::lent;
 use crate::lookups;
 use crate::memory::Memory;
 use crate::oracle::{all_codes, bits_of, code_of, complete, form, Cell, Kind, Line, Record, Table, MAX_LINES};
-use crate::raw::LINKED;
 use crate::stack::loaded;
+use oboepond::slices;
 use std::collections::BTreeSet;
 
 pub const CASES: &[AbiCase] = &[
@@ -705,7 +706,7 @@ fn to_utf8() -> Result<(), String> {
         let steps: Vec<Step> = codes_near(&mut rng, &made.table).into_iter().map(step).collect();
         let name = format!("{} lines to UTF-8", stored.n);
         converted(&steps, &name, |input, output, skip, result| {
-            LINKED.to_utf8(&record, &stored.memory, input, output, 1, skip, result)
+            slices::to_utf8(lent(&record, &stored.memory), input, output, 1, skip, result)
         })?;
     }
     Ok(())
@@ -729,7 +730,7 @@ fn from_utf8() -> Result<(), String> {
         let steps: Vec<Step> = points.into_iter().filter_map(step).collect();
         let name = format!("{} lines from UTF-8", stored.n);
         converted(&steps, &name, |input, output, skip, result| {
-            LINKED.from_utf8(&record, &stored.memory, input, output, 1, 1, skip, result)
+            slices::from_utf8(lent(&record, &stored.memory), input, output, 1, 1, skip, result)
         })?;
     }
     Ok(())

@@ -5,21 +5,27 @@
 //! runs. Arguments: none, everything; `program`, the program's tests alone;
 //! `pieces`, reading in pieces alone; `stand-in`, run in the program's place;
 //! `season N`, a long run of the program with N MB of each kind of lines;
-//! `pages`, the pages and the widths of lines alone.
+//! `pages`, the pages and the widths of lines alone; `crate`, the Rust crate alone.
 
-#[cfg(not(feature = "oracle-only"))]
+#[cfg(feature = "library")]
 mod abi;
 mod bursts;
 mod by_hand;
 mod cable;
 #[rustfmt::skip]
 mod cases;
+#[cfg(feature = "library")]
+mod easy;
+#[cfg(feature = "library")]
+mod easy_cases;
 mod gen;
-#[cfg(not(feature = "oracle-only"))]
+#[cfg(feature = "library")]
+mod lending;
+#[cfg(feature = "library")]
 mod library;
-#[cfg(not(feature = "oracle-only"))]
+#[cfg(feature = "library")]
 mod looks;
-#[cfg(not(feature = "oracle-only"))]
+#[cfg(feature = "library")]
 mod lookups;
 mod memory;
 mod oracle;
@@ -30,14 +36,14 @@ mod program_cases;
 mod program_random;
 mod program_runs;
 mod random;
-#[cfg(not(feature = "oracle-only"))]
-mod raw;
 mod season;
-#[cfg(not(feature = "oracle-only"))]
+#[cfg(feature = "library")]
+mod signatures;
+#[cfg(feature = "library")]
+mod signatures_wrong;
+#[cfg(feature = "library")]
 mod stack;
 mod subject;
-#[cfg(not(feature = "oracle-only"))]
-mod sys;
 
 use program_runs::{Binary, Program, StandIn};
 use random::{Group, Reached, GROUPS, TO_REACH};
@@ -50,6 +56,9 @@ use std::time::{Duration, Instant};
 use subject::{Oracle, Subject};
 
 const DEFAULT_CASES: (u64, u64) = (1, 40_000);
+/// Random cases of the crate's easy layer, one in so many of the library's.
+#[cfg(feature = "library")]
+const CRATE_SHARE: u64 = 10;
 /// Runs of the program among the random cases, in thousandths.
 const PROGRAM_SHARE: u64 = 10;
 /// Failures printed in one group of cases.
@@ -308,13 +317,20 @@ fn main() {
             pages_tests(&mut Tally::default());
             finish()
         }
+        #[cfg(feature = "library")]
+        ["crate"] => {
+            let (seed, count) = settings();
+            watch();
+            crate_tests(seed, count, &mut Tally::default());
+            finish()
+        }
         ["stand-in"] => program::stand_in().expect("standard input and output"),
         ["season", mb] => {
             let right = mb.parse().is_ok_and(season::run);
             std::process::exit(if right { 0 } else { 1 });
         }
         _ => {
-            println!("arguments: none, `program`, `pieces`, `stand-in`, `season N` or `pages`");
+            println!("arguments: none, `program`, `pieces`, `stand-in`, `season N`, `pages` or `crate`");
             std::process::exit(2);
         }
     }
@@ -330,7 +346,7 @@ fn all_tests(program_alone: bool) -> ! {
         library_tests(seed, count, &mut tally);
     }
     program_cases(&StandIn, &mut tally);
-    if program_alone || !cfg!(feature = "oracle-only") {
+    if program_alone || cfg!(feature = "library") {
         program_tests(seed, count, &mut tally);
     }
     finish()
@@ -349,7 +365,7 @@ fn pieces_alone() -> ! {
         }
     };
     run(&Oracle, false);
-    #[cfg(not(feature = "oracle-only"))]
+    #[cfg(feature = "library")]
     {
         run(&library::Library, true);
         library_cases("the C calls", &[abi::CASES, stack::CASES].concat(), &mut tally);
@@ -360,9 +376,12 @@ fn pieces_alone() -> ! {
 /// A file or name that a page cites and that is not there, and a line that is
 /// too long, are failures each; a run that looks at nothing is one too.
 fn pages_tests(tally: &mut Tally) {
-    for (name, (seen, failures)) in
-        [("names that the pages cite", pages::names()), ("widths of lines", pages::widths())]
-    {
+    let parts = [
+        ("names that the pages cite", pages::names()),
+        ("edits, and the page that names them", pages::edits()),
+        ("widths of lines", pages::widths()),
+    ];
+    for (name, (seen, failures)) in parts {
         tally.here = 0;
         println!("[pages] {name}: {seen} looked at, {} wrong", failures.len());
         let outcome = if seen == 0 { Err("nothing to look at".into()) } else { Ok(()) };
@@ -373,7 +392,7 @@ fn pages_tests(tally: &mut Tally) {
     }
 }
 
-#[cfg(not(feature = "oracle-only"))]
+#[cfg(feature = "library")]
 fn library_cases(what: &str, cases: &[abi::AbiCase], tally: &mut Tally) {
     let start = Instant::now();
     tally.here = 0;
@@ -384,18 +403,33 @@ fn library_cases(what: &str, cases: &[abi::AbiCase], tally: &mut Tally) {
     println!("[library] {} cases of {what}, {:.1} s", cases.len(), start.elapsed().as_secs_f64());
 }
 
+/// The crate: its easy layer as a subject and alone, and its declarations.
+#[cfg(feature = "library")]
+fn crate_tests(seed: u64, count: u64, tally: &mut Tally) {
+    subject_cases(&easy::Easy, "hand-written cases", cases::all().cases, tally);
+    library_cases("the crate", easy_cases::CASES, tally);
+    random_groups(&easy::Easy, true, seed, count, tally);
+    let outcomes = [signatures::compared(&signatures::Texts::read()), signatures_wrong::outcomes()].concat();
+    println!("[signatures] {} functions, numbers, messages and wrong versions", outcomes.len());
+    tally.here = 0;
+    for (name, outcome) in outcomes {
+        tally.count("signatures", &name, outcome);
+    }
+}
+
 fn library_tests(seed: u64, count: u64, tally: &mut Tally) {
     hand_written(&Oracle, tally);
     random_groups(&Oracle, false, seed, count, tally);
 
-    #[cfg(not(feature = "oracle-only"))]
+    #[cfg(feature = "library")]
     {
         let library = library::Library;
         hand_written(&library, tally);
         library_cases("the C calls", &[abi::CASES, stack::CASES].concat(), tally);
         library_cases("the look-ups", looks::CASES, tally);
         random_groups(&library, true, seed, count, tally);
+        crate_tests(seed, count / CRATE_SHARE, tally);
     }
-    #[cfg(feature = "oracle-only")]
+    #[cfg(not(feature = "library"))]
     println!("the library is not linked: the oracle alone was run");
 }

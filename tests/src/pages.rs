@@ -1,6 +1,7 @@
 //! The pages and the sources as text: every name and file that README.md and
-//! docs/ cite in backquotes exists (docs/CHANGES.md is history and may name
-//! what is gone), and no line of src/ or specs/ has more than 120 columns.
+//! docs/ cite in backquotes exists, and so does every file that they link to
+//! (docs/CHANGES.md is history and may name what is gone); docs/EDITS.md names
+//! every edit and no other; no line of src/ or specs/ has more than 120 columns.
 
 use std::collections::HashSet;
 use std::fs;
@@ -8,7 +9,8 @@ use std::path::{Path, PathBuf};
 
 const WIDEST: usize = 120;
 
-/// The page of edits that were tried; the first cell of a row is that edit's own label.
+/// The page of edits. Each crate has its part, with the edits in the gate first;
+/// the first cell of a row is the edit's label.
 const EDITS: &str = "docs/EDITS.md";
 
 /// Names of the kit that no file of the repository holds: the program's axioms and the kit itself.
@@ -75,7 +77,7 @@ fn words(files: &[String]) -> HashSet<String> {
 
 /// What a page cites: the spans between single backquotes, without fenced or
 /// indented blocks.
-fn spans(text: &str, labels: bool) -> Vec<(usize, String)> {
+fn spans(text: &str) -> Vec<(usize, String)> {
     let mut found = Vec::new();
     let mut fenced = false;
     for (n, line) in text.lines().enumerate() {
@@ -85,15 +87,9 @@ fn spans(text: &str, labels: bool) -> Vec<(usize, String)> {
         if fenced || line.starts_with("    ") {
             continue;
         }
-        let line = line.replace("\\|", "\u{1}");
-        let line = if labels && line.starts_with("| `") {
-            line[2..].split_once('|').map_or("", |(_, rest)| rest).to_string()
-        } else {
-            line
-        };
         for (i, span) in line.split('`').enumerate() {
             if i % 2 == 1 {
-                found.push((n + 1, span.replace('\u{1}', "|")));
+                found.push((n + 1, span.replace("\\|", "|")));
             }
         }
     }
@@ -146,13 +142,59 @@ fn missing(span: &str, words: &HashSet<String>, files: &[String]) -> Option<Stri
         .map(String::from)
 }
 
+/// The files that a line links to, from the page's folder.
+fn links(line: &str) -> impl Iterator<Item = &str> {
+    let targets = line.split("](").skip(1).filter_map(|rest| rest.split_once(')'));
+    targets.map(|(target, _)| target.split('#').next().unwrap_or("")).filter(|t| !t.is_empty() && !t.contains("://"))
+}
+
+/// The edits as files: crate, whether it is in the gate, label.
+fn edit_files(files: &[String]) -> HashSet<(String, bool, String)> {
+    let mut found = HashSet::new();
+    for file in files {
+        match file.split('/').collect::<Vec<_>>()[..] {
+            ["crates", name, "must-fail", edit] => found.insert((name.into(), true, edit.replace(".edit", ""))),
+            ["edits", name, edit] => found.insert((name.into(), false, edit.replace(".edit", ""))),
+            _ => continue,
+        };
+    }
+    found
+}
+
+/// The edits that the page names: `## CRATE`, `### In the gate` or another
+/// heading, and rows that begin with a label.
+fn edit_rows(page: &str) -> HashSet<(String, bool, String)> {
+    let (mut name, mut gate) = (String::new(), false);
+    let mut found = HashSet::new();
+    for line in page.lines() {
+        if let Some(heading) = line.strip_prefix("## ") {
+            name = heading.into();
+        } else if let Some(heading) = line.strip_prefix("### ") {
+            gate = heading == "In the gate";
+        } else if let Some((label, _)) = line.strip_prefix("| `").and_then(|rest| rest.split_once('`')) {
+            found.insert((name.clone(), gate, label.into()));
+        }
+    }
+    found
+}
+
+/// docs/EDITS.md and the files of the edits, both ways.
+pub fn edits() -> (usize, Vec<String>) {
+    let files = edit_files(&files());
+    let rows = edit_rows(&fs::read_to_string(root().join(EDITS)).unwrap_or_default());
+    let told = |what: &str, (name, gate, label): &(String, bool, String)| {
+        format!("{name}/{label}{}: {what}", if *gate { " (in the gate)" } else { "" })
+    };
+    let mut failures: Vec<String> = rows.difference(&files).map(|e| told("there is no such file", e)).collect();
+    failures.extend(files.difference(&rows).map(|e| told("docs/EDITS.md does not name it", e)));
+    failures.sort();
+    (files.len(), failures)
+}
+
 /// Failures, each with its place.
 pub fn names() -> (usize, Vec<String>) {
     let files = files();
-    let mut words = words(&files);
-    let edits = fs::read_to_string(root().join(EDITS)).unwrap_or_default();
-    let cells = edits.lines().filter_map(|l| l.strip_prefix("| `")?.split_once('|'));
-    words.extend(cells.flat_map(|(label, _)| parts(label).map(String::from).collect::<Vec<_>>()));
+    let words = words(&files);
     let mut failures = Vec::new();
     let mut cited = 0;
     for file in &files {
@@ -161,10 +203,17 @@ pub fn names() -> (usize, Vec<String>) {
             continue;
         }
         let text = fs::read_to_string(root().join(file)).unwrap_or_default();
-        for (line, span) in spans(&text, file == EDITS) {
+        for (line, span) in spans(&text) {
             cited += 1;
             if let Some(word) = missing(&span, &words, &files) {
                 failures.push(format!("{file}:{line}: `{word}` is not there"));
+            }
+        }
+        let folder = root().join(file).parent().map(Path::to_path_buf).unwrap_or_default();
+        for (n, target) in text.lines().enumerate().flat_map(|(n, line)| links(line).map(move |t| (n + 1, t))) {
+            cited += 1;
+            if !folder.join(target).exists() {
+                failures.push(format!("{file}:{n}: the link to {target} leads nowhere"));
             }
         }
     }

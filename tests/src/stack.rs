@@ -4,8 +4,9 @@
 
 use crate::abi::AbiCase;
 use crate::cases::{equal, junk, k_void, K};
+use crate::lending::{lent, lent_mut};
 use crate::memory::Memory;
-use crate::raw::LINKED;
+use oboepond::slices::{self, Lent};
 use std::arch::asm;
 
 pub const CASES: &[AbiCase] = &[
@@ -73,35 +74,36 @@ fn deep() -> String {
 }
 
 pub fn loaded(text: &[u8]) -> ([u32; 7], Memory) {
-    let (mut memory, mut result) = (junk(0), [0; 8]);
-    assert_eq!(LINKED.load(text, &mut memory, &mut result), 0, "the table is accepted");
-    (std::array::from_fn(|i| result[i + 1] as u32), memory)
+    let (mut record, mut memory) = ([0; 7], junk(0));
+    let number = slices::load(text, lent_mut(&mut record, &mut memory), &mut [0]);
+    assert_eq!(number, 0, "the table is accepted");
+    (record, memory)
 }
 
 fn load() -> Result<(), String> {
     let texts = [K.to_string(), deep(), "<icu:state> 0-ff:1, 80-\n".repeat(9), K.repeat(2)];
     for text in texts.map(String::into_bytes).into_iter().chain([k_void()]) {
-        let (mut memory, mut result) = (junk(0), [0; 8]);
+        let (mut record, mut memory, mut result) = ([0; 7], junk(0), [0]);
         at_most("load", 2 * KIB, &mut || {
-            LINKED.load(&text, &mut memory, &mut result);
+            slices::load(&text, lent_mut(&mut record, &mut memory), &mut result);
         })?;
     }
     Ok(())
 }
 
 /// The same work over K and over a table with codes of up to four bytes.
-fn over_tables(work: fn(&[u32; 7], &Memory) -> Result<(), String>) -> Result<(), String> {
+fn over_tables(work: fn(Lent) -> Result<(), String>) -> Result<(), String> {
     for text in [K.to_string(), deep()] {
         let (record, memory) = loaded(text.as_bytes());
-        work(&record, &memory)?;
+        work(lent(&record, &memory))?;
     }
     Ok(())
 }
 
 fn check() -> Result<(), String> {
-    over_tables(|record, memory| {
+    over_tables(|table| {
         let mut number = 1;
-        at_most("check", 2 * KIB, &mut || number = LINKED.check(record, memory))?;
+        at_most("check", 2 * KIB, &mut || number = slices::check(table))?;
         equal("number", number, 0)
     })
 }
@@ -113,11 +115,11 @@ fn turns(n: usize, good: &[u8], bad: &[u8], skip: u32) -> Vec<u8> {
 }
 
 fn to_utf8() -> Result<(), String> {
-    over_tables(|record, memory| {
+    over_tables(|table| {
         for (n, skip) in [0, 1, 63, 64, 5000].into_iter().flat_map(|n| [(n, 0), (n, 1)]) {
             let (input, mut output, mut result) = (turns(n, b"\x3f", b"\xff", skip), vec![0; 4 * n], [0; 3]);
             at_most("to UTF-8", 36 * KIB, &mut || {
-                LINKED.to_utf8(record, memory, &input, &mut output, 1, skip, &mut result);
+                slices::to_utf8(table, &input, &mut output, 1, skip, &mut result);
             })?;
             equal("read", result[0], n as u64)?;
         }
@@ -126,11 +128,11 @@ fn to_utf8() -> Result<(), String> {
 }
 
 fn from_utf8() -> Result<(), String> {
-    over_tables(|record, memory| {
+    over_tables(|table| {
         for (n, skip) in [0, 1, 63, 64, 5000].into_iter().flat_map(|n| [(n, 0), (n, 1)]) {
             let (input, mut output, mut result) = (turns(n, b"C", b"\xff", skip), vec![0; 4 * n], [0; 3]);
             at_most("from UTF-8", 36 * KIB, &mut || {
-                LINKED.from_utf8(record, memory, &input, &mut output, 1, 1, skip, &mut result);
+                slices::from_utf8(table, &input, &mut output, 1, 1, skip, &mut result);
             })?;
             equal("read", result[0], n as u64)?;
         }
@@ -139,12 +141,12 @@ fn from_utf8() -> Result<(), String> {
 }
 
 fn to_unicode() -> Result<(), String> {
-    over_tables(|record, memory| {
+    over_tables(|table| {
         let calls = (0..8).flat_map(|call| [0, 1, 63, 64, 5000].map(|n| (call / 2, call % 2, n)));
         for (scheme, skip, n) in calls {
             let (input, mut output, mut result) = (turns(n, b"\x3f", b"\xff", skip), vec![0; 4 * n + 4], [0; 3]);
             at_most(&format!("to Unicode, scheme {scheme}"), 36 * KIB, &mut || {
-                LINKED.to_unicode(record, memory, &input, &mut output, scheme, 1, skip, &mut result);
+                slices::to_unicode(table, &input, &mut output, scheme, 1, skip, &mut result);
             })?;
             equal("read", result[0], n as u64)?;
         }
@@ -153,7 +155,7 @@ fn to_unicode() -> Result<(), String> {
 }
 
 fn from_unicode() -> Result<(), String> {
-    over_tables(|record, memory| {
+    over_tables(|table| {
         // A scheme, what stands in front, and a character with what is none; the last
         // has a mark.
         let utf8: [&[u8]; 2] = [b"C", b"\xff"];
@@ -168,7 +170,7 @@ fn from_unicode() -> Result<(), String> {
             let input = [front, &turns(n, good, bad, skip)].concat();
             let (mut output, mut result) = (vec![0; 4 * n], [0; 3]);
             at_most(&format!("from Unicode, scheme {scheme}"), 36 * KIB, &mut || {
-                LINKED.from_unicode(record, memory, &input, &mut output, scheme, 1, 1, skip, &mut result);
+                slices::from_unicode(table, &input, &mut output, scheme, 1, 1, skip, &mut result);
             })?;
             equal("read", result[0], input.len() as u64)?;
         }
@@ -182,7 +184,7 @@ fn cuts(n: usize) -> impl Iterator<Item = usize> {
 }
 
 fn to_pieces() -> Result<(), String> {
-    over_tables(|record, memory| {
+    over_tables(|table| {
         let calls = (0..8).flat_map(|call| [0, 1, 63, 64, 5000].map(|n| (call / 2, call % 2, n)));
         for ((scheme, skip, n), last) in calls.flat_map(|call| [(call, &b"\x3f"[..]), (call, b"\x81")]) {
             let input = [&turns(n, b"\x3f", b"\xff", skip), last].concat();
@@ -191,23 +193,13 @@ fn to_pieces() -> Result<(), String> {
                 let mut read = 0;
                 for piece in [&input[..cut], &input[cut..]] {
                     at_most(&format!("to Unicode in pieces, scheme {scheme}"), 36 * KIB, &mut || {
-                        LINKED.to_unicode_piece(
-                            record,
-                            memory,
-                            &mut kept,
-                            piece,
-                            &mut output,
-                            scheme,
-                            1,
-                            skip,
-                            &mut result,
-                        );
+                        slices::to_unicode_piece(table, &mut kept, piece, &mut output, scheme, 1, skip, &mut result);
                     })?;
                     read += result[0];
                 }
                 equal("read", read, n as u64 + 1)?;
                 at_most(&format!("to Unicode, close, scheme {scheme}"), 3 * KIB, &mut || {
-                    LINKED.to_unicode_close(record, memory, &mut kept, &mut output, scheme, 1, skip, &mut result);
+                    slices::to_unicode_close(table, &mut kept, &mut output, scheme, 1, skip, &mut result);
                 })?;
             }
         }
@@ -216,7 +208,7 @@ fn to_pieces() -> Result<(), String> {
 }
 
 fn from_pieces() -> Result<(), String> {
-    over_tables(|record, memory| {
+    over_tables(|table| {
         let utf8: [&[u8]; 3] = [b"C", b"\xff", b"\xf0\x90\x80"];
         let big: [&[u8]; 3] = [b"\x00\x00\x00C", b"\x00\x00\xd8\x00", b"\x00\x00\x00"];
         let little: [&[u8]; 3] = [b"C\x00\x00\x00", b"\x00\xd8\x00\x00", b"C"];
@@ -232,9 +224,8 @@ fn from_pieces() -> Result<(), String> {
                 let mut read = 0;
                 for piece in [&input[..cut], &input[cut..]] {
                     at_most(&format!("from Unicode in pieces, scheme {scheme}"), 68 * KIB, &mut || {
-                        LINKED.from_unicode_piece(
-                            record,
-                            memory,
+                        slices::from_unicode_piece(
+                            table,
                             &mut kept,
                             piece,
                             &mut output,
@@ -249,7 +240,7 @@ fn from_pieces() -> Result<(), String> {
                 }
                 equal("read", read, input.len() as u64)?;
                 at_most(&format!("from Unicode, close, scheme {scheme}"), 3 * KIB, &mut || {
-                    LINKED.from_unicode_close(record, memory, &mut kept, &mut output, scheme, 1, 1, skip, &mut result);
+                    slices::from_unicode_close(table, &mut kept, &mut output, scheme, 1, 1, skip, &mut result);
                 })?;
             }
         }
@@ -258,11 +249,11 @@ fn from_pieces() -> Result<(), String> {
 }
 
 fn audit() -> Result<(), String> {
-    over_tables(|record, memory| {
+    over_tables(|table| {
         let (mut entries, mut result) = (vec![0; 900], [0; 5]);
         let mut number = 1;
         at_most("audit", 3 * KIB, &mut || {
-            number = LINKED.audit(record, memory, 1, 0, 0, 900, &mut entries, &mut result);
+            number = slices::audit(table, 1, 0, 0, 900, &mut entries, &mut result);
         })?;
         equal("number", number, 0)
     })

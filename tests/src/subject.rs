@@ -59,7 +59,7 @@ pub trait Subject {
 pub struct Oracle;
 
 /// 60: nothing read or written.
-const PIPE_REFUSED: Piped = Piped { number: 60, read: 0, written: 0, length: 0 };
+pub const PIPE_REFUSED: Piped = Piped { number: 60, read: 0, written: 0, length: 0 };
 
 /// What record and memory hold: nothing where the answer is 60.
 type Meaning = Option<Rc<(Table, Lines)>>;

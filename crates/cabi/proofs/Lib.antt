@@ -1,3 +1,4 @@
 pub mod Lengths
+pub mod Records
 pub mod Conversions
 pub mod PieceAnswers

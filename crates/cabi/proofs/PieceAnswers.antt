@@ -4,8 +4,7 @@ use mathlib.Core.Path.{_≡_, refl, sym, ap, _∙_}
 use mathlib.Core.Bool.{Bool, true, false}
 use mathlib.Core.List.{List, [], _∷_}
 use Prim.Native.Nat.{ℕ, zero, suc, _<_, _≤_}
-use native.Mathlib.Omega.{arith}
-use lib.ListN.{length, getD, set}
+use lib.ListN.{length, getD}
 use Rattle.lists.proofs.Cases.{pick-yes, pick-no}
 use Rattle.unicode.specs.declared.scheme.Scheme.{Scheme}
 use Rattle.convert.specs.Run.{putBytes}
@@ -66,16 +65,6 @@ module _ (rec : List ℕ) (n : ℕ) (run : Scheme → PieceAnswer) (kept output 
               o ∙ a .2,
               w ∙ ap (λ (x : Pieced). withNumbers (x .read ∷ x .written ∷ pieceLength (x .end) ∷ []) result) is ∙ a .3,
             )
-
--- five numbers, stored one after the other
-pub put-five : (a b c d e : ℕ) (old : List ℕ) → 5 ≤ length old
-    → set (set (set (set (set old 0 a) 1 b) 2 c) 3 d) 4 e ≡ withNumbers (a ∷ b ∷ c ∷ d ∷ e ∷ []) old
-put-five a b c d e [] h = absurd (omega arith)
-put-five a b c d e (v ∷ []) h = absurd (omega arith)
-put-five a b c d e (v ∷ w ∷ []) h = absurd (omega arith)
-put-five a b c d e (v ∷ w ∷ x ∷ []) h = absurd (omega arith)
-put-five a b c d e (v ∷ w ∷ x ∷ y ∷ []) h = absurd (omega arith)
-put-five a b c d e (v ∷ w ∷ x ∷ y ∷ z ∷ s) h = refl
 
 -- the place of the mark, by its number
 pub placeAt-far : (n : ℕ) → (n ≡ 0 → ⊥) → (n ≡ 1 → ⊥) → placeAt 2 ≡ placeAt n

@@ -67,11 +67,14 @@ ifShort n rec result short done = ifFewer 7 rec short (ifFewer n result short do
 abbrev pub withNumbers : List ℕ → List ℕ → List ℕ
 withNumbers ns old = placed old 0 ns
 
--- what loading hands back beside its number: the line, then the record's seven numbers
+-- the seven numbers of a record, on the way out; `recordIn` reads them on the way in
+abbrev pub recordNumbers : Record → List ℕ
+recordNumbers r =
+    r .rows ∷ r .mappings ∷ r .min ∷ r .max ∷ r .subchar .bits ∷ r .subchar .len ∷ r .subchar1 ∷ []
+
+-- what loading hands back beside its number and the record: the line
 abbrev pub loadedNumbers : Loaded → List ℕ
-loadedNumbers l =
-    l .line ∷ l .table .rows ∷ l .table .mappings ∷ l .table .min ∷ l .table .max
-    ∷ l .table .subchar .bits ∷ l .table .subchar .len ∷ l .table .subchar1 ∷ []
+loadedNumbers l = l .line ∷ []
 
 -- oboepond_check: 0 where record and memory pass the test behind 60
 unfoldable pub checkNumber : List ℕ → Slices → ℕ

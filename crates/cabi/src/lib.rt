@@ -20,7 +20,7 @@ ghost use Rattle.table.specs.Numbers.{answerNumber};
 ghost use Rattle.table.specs.Load.{givenNumber, loadedBy, given, leftIn};
 ghost use Rattle.convert.specs.Run.{endNumber, endLength};
 ghost use Rattle.audit.specs.Audit.{auditedOf, spaceAfter, endingNumber};
-ghost use Rattle.cabi.specs.Exported.{recordIn, ifFewer, ifShort, withNumbers, loadedNumbers, checkNumber};
+ghost use Rattle.cabi.specs.Exported.{recordIn, recordNumbers, ifShort, withNumbers, loadedNumbers, checkNumber};
 ghost use Rattle.cabi.specs.Exported.{schemeIn, answered, toExported, fromExported};
 ghost use Rattle.cabi.specs.Exported.{auditedNumbers, auditExported};
 
@@ -85,24 +85,31 @@ fn put_done(done: Converted, result: &mut [u64]) -> u32
     convert::end_number(end)
 }
 
-// Writes the line and the record of a loaded text, and answers its number.
-fn put_loaded(loaded: Loaded, result: &mut [u64]) -> u32
-    requires { ⌜ 8 ≤ length (now result) ⌝ }
+// Writes a record to the front of a slice.
+fn put_record(held: Record, numbers: &mut [u32])
+    requires { ⌜ 7 ≤ length (now numbers) ⌝ }
+    ensures { λ _. ⌜ now (numbers .exit) ≡ withNumbers (recordNumbers held) (now (numbers .entry)) ⌝ }
+{
+    let sub = held.subchar;
+    numbers[0] = held.rows;
+    numbers[1] = held.mappings;
+    numbers[2] = held.min;
+    numbers[3] = held.max;
+    numbers[4] = sub.bits;
+    numbers[5] = sub.len;
+    numbers[6] = held.subchar1;
+}
+
+// Writes the record and the line of a loaded text, and answers its number.
+fn put_loaded(loaded: Loaded, rec: &mut [u32], result: &mut [u64]) -> u32
+    requires { ⌜ (7 ≤ length (now rec)) × (1 ≤ length (now result)) ⌝ }
     ensures { λ r. ⌜ (r ≡ answerNumber (loaded .answer))
+        × (now (rec .exit) ≡ withNumbers (recordNumbers (loaded .table)) (now (rec .entry)))
         × (now (result .exit) ≡ withNumbers (loadedNumbers loaded) (now (result .entry))) ⌝ }
 {
     let held = loaded.table;
-    let sub = held.subchar;
-    let numbers = [
-        loaded.line as u64,
-        held.rows as u64,
-        held.mappings as u64,
-        held.min as u64,
-        held.max as u64,
-        sub.bits as u64,
-        sub.len as u64,
-        held.subchar1 as u64,
-    ];
+    put_record(held, rec);
+    let numbers = [loaded.line as u64];
     put_numbers(&numbers, result);
     let answer = loaded.answer;
     table::load::answer_number(answer)
@@ -112,6 +119,7 @@ fn put_loaded(loaded: Loaded, result: &mut [u64]) -> u32
 #[no_mangle]
 pub extern "C" fn oboepond_load(
     text: &[u8],
+    rec: &mut [u32],
     states: &mut [u16],
     codes: &mut [u32],
     infos: &mut [u32],
@@ -121,17 +129,23 @@ pub extern "C" fn oboepond_load(
     ensures { λ r. ⌜ (let old =
         slices (now (states .entry)) (now (codes .entry)) (now (infos .entry)) (now (order .entry)) in
         let g = given limits (now (text .entry)) old in
+        let numbers = now (rec .entry) in
         let before = now (result .entry) in
-        (r ≡ ifFewer 8 before 70 (givenNumber g))
+        (r ≡ ifShort 1 numbers before 70 (givenNumber g))
+        × (now (rec .exit)
+        ≡ ifShort 1 numbers before numbers (withNumbers (recordNumbers (loadedBy g .table)) numbers))
         × (slices (now (states .exit)) (now (codes .exit)) (now (infos .exit)) (now (order .exit))
-        ≡ ifFewer 8 before old (leftIn limits g old))
-        × (now (result .exit) ≡ ifFewer 8 before before (withNumbers (loadedNumbers (loadedBy g)) before))) ⌝ }
+        ≡ ifShort 1 numbers before old (leftIn limits g old))
+        × (now (result .exit) ≡ ifShort 1 numbers before before (withNumbers (loadedNumbers (loadedBy g)) before))) ⌝ }
 {
-    if result.len() < 8 {
+    if rec.len() < RECORD {
+        return SHORT;
+    }
+    if result.len() < 1 {
         return SHORT;
     }
     let loaded = table::load::load(text, states, codes, infos, order);
-    put_loaded(loaded, result)
+    put_loaded(loaded, rec, result)
 }
 
 // The test behind number 60.

@@ -13,6 +13,7 @@ pub mod KeptForms
 pub mod PieceSteps
 pub mod CompleteCodes
 pub mod ReadsBack
+pub mod FourEach
 pub mod PieceStops
 pub mod PieceKept
 mod PieceStates

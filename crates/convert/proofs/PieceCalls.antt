@@ -240,6 +240,8 @@ module _ (t : Table) (p : Proper t) (ks : Keeps limits t) (rec : Record) (m : Sl
             stops = λ w z. let d = done .end in let y : last .end ≡ Stopped w = cc in same-cs (told .stops w y);
             ends = λ z f. let l = closed .last f in same-all l (told .closes (omega arith) (l .room) (l .not-full));
             all-read = All-⇒ {P = OneEach} {Q = λ c. c .end ≡ Ended AllRead → c .read ≡ length (c .piece)} (λ c h. h .all) cs (done .each);
-            moves = All-⇒ {P = OneEach} {Q = λ c. Ample way e c → c .end ≡ Ended OutputFull → (0 < c .read) ⊎ (c .kept .bytes .len < c .came .bytes .len)}
+            moves = All-⇒ {P = OneEach} {Q = λ c. Ample way e 1 c → c .end ≡ Ended OutputFull → (0 < c .read) ⊎ (c .kept .bytes .len < c .came .bytes .len)}
                 (λ c h. h .moves) cs (done .each);
+            never-full = All-⇒ {P = OneEach} {Q = λ c. Ample way e (c .came .bytes .len + length (c .piece)) c → c .end ≡ Ended OutputFull → ⊥}
+                (λ c h. h .never-full) cs (done .each);
           }

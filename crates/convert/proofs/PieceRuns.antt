@@ -1,8 +1,8 @@
 -- A conversion in pieces, whatever the step: where a run ends, and what one call on a piece does to the rest of the conversion.
 -- run-ends, run-ahead   a run's end, and on from there     Fit, Moved   what holds of what is carried, and what calls did
--- moves-idle, moves, moves-then   no call, one, one after another     moves-on   50 with space enough moves
+-- moves-idle, moves, moves-then   no call, one, one after another     moves-on   50 with space enough moves     pieceOn-enough   and with space for all there is none
 use mathlib.Core.Path.{_≡_, refl, sym, ap, subst, _∙_}
-use Prim.Native.Nat.{ℕ, zero, suc, _+_, _-_, _≤_, _<_}
+use Prim.Native.Nat.{ℕ, zero, suc, _+_, _-_, _*_, _≤_, _<_}
 use mathlib.Core.List.{List, [], _∷_, _++_, append-nil, append-assoc}
 use mathlib.Core.Bool.{true, false}
 use mathlib.Core.Logic.{_⊎_, inl, inr}
@@ -23,7 +23,7 @@ use Rattle.convert.specs.loops.Laws.{NotFull}
 use Rattle.convert.specs.declared.RunEnd.{RunEnd}
 use Rattle.convert.specs.declared.RunEnd.the-variants.{AllRead, OutputFull, BadTable, Stopped}
 use Rattle.convert.proofs.Runs.{run-stop, run-full, run-more, every-run, after-after, after-none}
-use Rattle.convert.proofs.Whole.{resumed, resumed-none, reads-within, all-read}
+use Rattle.convert.proofs.Whole.{resumed, resumed-none, four-enough, reads-within, all-read}
 
 -- ## Where a run ends
 
@@ -290,6 +290,14 @@ module _ (step : SequenceStep) (so : Sound step) (k : Carry) (piece : List ℕ) 
       pick-case (λ (a : PieceRun). a .end ≡ AllRead → a .read ≡ length piece) (isCutShort (now′ .end)) (keeping (k .bytes) piece now′) (endedAt (k .bytes) now′)
       (λ q e. refl)
       (λ q e. let r = all-read step so (k .bytes ++ piece) (k .state) room e in omega (arith, length-append (k .bytes) piece))
+
+  -- with space for every byte it is never 50
+  pub pieceOn-enough : AtMost 4 step → 4 * (length (k .bytes) + length piece) ≤ room → pieceOn step k piece room .end ≡ OutputFull → ⊥
+  unfolding pieceOn
+  pieceOn-enough most l =
+      pick-case (λ (a : PieceRun). a .end ≡ OutputFull → ⊥) (isCutShort (now′ .end)) (keeping (k .bytes) piece now′) (endedAt (k .bytes) now′)
+      (λ q e. let z : _≡_ {A = ℕ} 0 1 = cc in omega arith)
+      (λ q. four-enough step so most (k .bytes ++ piece) (k .state) room (omega (arith, length-append (k .bytes) piece)))
 
   -- 50 with space for what a sequence gives has read a byte or keeps fewer
   pub moves-on : (cap : ℕ) → AtMost cap step → cap ≤ room → let a = pieceOn step k piece room in a .end ≡ OutputFull

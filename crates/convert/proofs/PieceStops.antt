@@ -9,15 +9,11 @@ use mathlib.Core.List.{List, [], _++_}
 use mathlib.Core.Bool.{Bool, true, false}
 use mathlib.Core.Option.{Option, none, some}
 use native.Mathlib.Omega.{arith}
-use borrow.Author.Tests.{ltb-true, ltb-false, leb-true}
-use lib.Dec.{ltb, leb}
+use borrow.Author.Tests.{ltb-true, ltb-false}
+use lib.Dec.{ltb}
 use lib.ListN.{length, take, drop, take-append-drop}
 use lib.Seq.{take-append-le}
-use Rattle.lists.proofs.Laws.{and-left, and-right}
-use Rattle.lists.proofs.Cases.{pick-case, pick-yes}
-use Rattle.lists.proofs.Order.{All-In⁻}
-use Rattle.lists.proofs.First.{firstOf-some⁻}
-use Rattle.lists.proofs.AllAny.{all-true}
+use Rattle.lists.proofs.Cases.{pick-case}
 use Rattle.unicode.specs.Utf8.{decodeOne}
 use Rattle.unicode.specs.Utf32.{markAt, decodeIn}
 use Rattle.unicode.specs.Scheme.{Side, utf8, utf32, sideOf}
@@ -38,27 +34,24 @@ use Rattle.unicode.proofs.RoundTrip.{utf8-decode-encode}
 use Rattle.table.specs.Limits.{Limits}
 use Rattle.table.specs.States.{longest, cutOf}
 use Rattle.table.specs.Codes.{AllByte}
-use Rattle.table.specs.Meaning.{Line, Table, stepsOf, hasCode, reader, writer}
-use Rattle.table.specs.Rules.{t5, Keeps}
+use Rattle.table.specs.Meaning.{Line, Table, stepsOf, reader}
+use Rattle.table.specs.Rules.{Keeps}
 use Rattle.table.specs.declared.states.Cut.{Cut}
 use Rattle.table.specs.declared.states.Cut.the-variants as cut
 use Rattle.table.specs.declared.states.CutStop.the-variants as cutStop
 use Rattle.table.proofs.Cuts.{cut-more, cut-within, cut-short-leads, no-ends-zero}
-use Rattle.table.proofs.KeptSizes.{kept-sizes, kept-short}
-use Rattle.table.proofs.FormTested.{code-length}
-use Rattle.table.proofs.ReadBack.{writesCode⇒hasCode}
 use Rattle.convert.specs.Run.{Gives, give, stop, SequenceStep}
 use Rattle.convert.specs.Step.{skipped, pointFor, onCut, toSequence, toPlain, toStep}
-use Rattle.convert.specs.Step.{Written, code, subchar1, nothing, writtenBy, writes, sub1Bytes, substituted, sentFor, onSequence, fromPlain, fromStep}
+use Rattle.convert.specs.Step.{Written, code, subchar1, nothing, writes, sentFor, onSequence, fromPlain, fromStep}
 use Rattle.convert.specs.Pieces.{stateOf, inState, keepState, byMark, fromStepIn, stepIn}
 use Rattle.convert.specs.declared.Settings.{Settings}
 use Rattle.convert.specs.declared.pieces.Way.{Way}
 use Rattle.convert.specs.declared.pieces.Way.the-variants.{ToUnicode, FromUnicode}
 use Rattle.convert.specs.loops.Inner.{Pieceable, AtMost}
 use Rattle.convert.proofs.PlainSteps.{utf8-lawful, lawful, stop-by, to-complete}
-use Rattle.convert.proofs.Skipping.{given-by, stopped-by}
-use Rattle.convert.proofs.Steps.{four-bytes, to-gives, from-stopped}
-use Rattle.convert.proofs.ReadsBack.{written-line}
+use Rattle.convert.proofs.Skipping.{stopped-by}
+use Rattle.convert.proofs.Steps.{to-gives, from-stopped}
+use Rattle.convert.proofs.FourEach.{to-four, from-four}
 use Rattle.convert.proofs.PieceSteps.{inState-give⁻, inState-stop⁻, markAt-++, from-short}
 
 -- what is seen in a list from n bytes alone, whatever follows, and is not seen in a beginning, takes more than that
@@ -264,72 +257,16 @@ stepIn-pieceable way e t settings = record {
 
 -- ## What a sequence gives has at most four bytes
 
-abbrev CodeFew : Written → Type 0
-CodeFew (code c) = length c ≤ 4
-CodeFew subchar1 = Unit {0}
-CodeFew nothing = Unit {0}
-
 pub stepIn-four-to : (e : Scheme) (t : Table) (settings : Settings) → AtMost 4 (stepIn ToUnicode e t settings)
 unfolding stepIn
 stepIn-four-to e t settings st s bs n next q =
     let k = inState-give⁻ st (toStep (sideOf e) t settings 0 s) bs n next q in
-    four-bytes (sideOf e) (lawful e) t settings 0 s bs n (k .1 .0) (k .1 .1)
+    to-four (sideOf e) (lawful e) t settings 0 s bs n (k .1 .0) (k .1 .1)
 
 module _ (lim : Limits) (t : Table) (keeps : Keeps lim t) (bytes : AllByte (t .subchar)) where
-  subchar-few : length (t .subchar) ≤ 4
-  subchar-few = kept-short lim t keeps (t .subchar) bytes (code-length (stepsOf t) (t .subchar) (keeps .so-far .rule4-sub) .0)
-
-  line-few : (l : Line) → t5 (stepsOf t) (t .min) (t .max) l ≡ true → hasCode l ≡ true → length (l .code) ≤ 4
-  line-few l ok h =
-      let r = sym (pick-yes (hasCode l) _ true h) ∙ ok in
-      let m = leb-true (length (l .code)) (t .max) (and-left (leb (length (l .code)) (t .max)) _ (and-right (leb (t .min) (length (l .code))) _ r)) in
-      omega (arith, kept-sizes lim t keeps .most)
-
-  writes-few : (fallback : Bool) (c : ℕ) → CodeFew (writes t fallback c)
-  unfolding writes
-  writes-few fallback c = go (writtenBy fallback (writer c (t .lines))) refl
-    where
-      go : (w : Written) → writtenBy fallback (writer c (t .lines)) ≡ w → CodeFew w
-      go (code b) e =
-          let (l, q, w, own) = written-line fallback (writer c (t .lines)) b e in
-          let kept =
-          All-In⁻ (λ x. t5 (stepsOf t) (t .min) (t .max) x ≡ true) l (t .lines) (all-true _ (t .lines) (keeps .so-far .rule5)) (firstOf-some⁻ _ l (t .lines) q .0) in
-          omega (arith, line-few l kept (writesCode⇒hasCode l w), ap length own)
-      go subchar1 e = tt
-      go nothing e = tt
-
-  sub1-few : (o : Option ℕ) → length (sub1Bytes o (t .subchar)) ≤ 4
-  sub1-few none = subchar-few
-  sub1-few (some b) = omega arith
-
-  substituted-few : (substitute : Bool) (c : List ℕ) (m row : ℕ) (bs : List ℕ) (n next : ℕ) → length c ≤ 4
-      → substituted substitute c m row ≡ give bs n next → length bs ≤ 4
-  substituted-few true c m row bs n next h e = let b : c ≡ bs = cc in omega (arith, ap length b)
-  substituted-few false c m row bs n next h e = absurd (let z : _≡_ {A = ℕ} 0 1 = cc in omega arith)
-
-  sent-few : (substitute : Bool) (row m : ℕ) (w : Written) (bs : List ℕ) (n next : ℕ) → CodeFew w
-      → sentFor t substitute row m w ≡ give bs n next → length bs ≤ 4
-  sent-few substitute row m (code c) bs n next h e = let b : c ≡ bs = cc in omega (arith, ap length b)
-  sent-few substitute row m subchar1 bs n next h e =
-      substituted-few substitute (sub1Bytes (t .subchar1) (t .subchar)) m row bs n next (sub1-few (t .subchar1)) e
-  sent-few substitute row m nothing bs n next h e = substituted-few substitute (t .subchar) m row bs n next subchar-few e
-
-  sequence-few : (u : Side) (settings : Settings) (row : ℕ) (x : Sequence) (bs : List ℕ) (n next : ℕ)
-      → onSequence u t (settings .fallback) (settings .substitute) row x ≡ give bs n next → length bs ≤ 4
-  sequence-few u settings row (sequence.Stopped w) bs n next e = absurd (let z : _≡_ {A = ℕ} 0 1 = cc in omega arith)
-  sequence-few u settings row (sequence.Scalar c m) bs n next e =
-      sent-few (settings .substitute) row m (writes t (settings .fallback) c) bs n next (writes-few (settings .fallback) c) e
-
-  from-few : (u : Side) (settings : Settings) (row : ℕ) → (s bs : List ℕ) (n next : ℕ) → fromStep u t settings row s ≡ give bs n next → length bs ≤ 4
-  unfolding fromStep fromPlain
-  from-few u settings row s bs n next e =
-      given-by (t .subchar) row (length bs ≤ 4) (settings .skip) (fromPlain u t settings row s) bs n next e
-      (λ q. sequence-few u settings row (u .decode s) bs n next q)
-      (λ on q b r. omega (arith, subchar-few, ap length b))
-
   pub stepIn-four-from : (e : Scheme) (settings : Settings) → AtMost 4 (stepIn FromUnicode e t settings)
   unfolding stepIn
   stepIn-four-from e settings st s bs n next =
       fromStepIn-case t settings s (λ g. g ≡ give bs n next → length bs ≤ 4) e st
-      (λ u m side w q. let k = inState-give⁻ m (fromStep u t settings 0 s) bs n next q in from-few u settings 0 s bs n (k .1 .0) (k .1 .1))
+      (λ u m side w q. let k = inState-give⁻ m (fromStep u t settings 0 s) bs n next q in from-four lim t keeps bytes u settings 0 s bs n (k .1 .0) (k .1 .1))
       (λ order w q. let b : [] ≡ bs = cc in omega (arith, ap length b))

@@ -2,7 +2,7 @@
 -- the conversion in one piece.
 -- Contents: one call; calls one after the other (`Doing`, `Done`); as the whole (`Told`).
 use mathlib.Core.Path.{_≡_, refl, sym, ap, subst, _∙_}
-use Prim.Native.Nat.{ℕ, zero, suc, _+_, _-_, _≤_, _<_}
+use Prim.Native.Nat.{ℕ, zero, suc, _+_, _-_, _*_, _≤_, _<_}
 use mathlib.Core.List.{List, [], _∷_, _++_, append-nil, append-assoc}
 use mathlib.Core.Logic.{_⊎_, inl, inr}
 use mathlib.Core.Option.{Option, none, some}
@@ -37,7 +37,7 @@ use Rattle.convert.specs.declared.pieces.PieceEnd.{PieceEnd}
 use Rattle.convert.specs.declared.pieces.PieceEnd.the-variants.{Ended}
 use Rattle.convert.proofs.Runs.{run-end, run-stop}
 use Rattle.convert.proofs.SkippedRuns.{bytes-behind}
-use Rattle.convert.proofs.PieceRuns.{Fit, Moved, onward, moves, moves-unless, moves-then, pieceOn-valid, pieceOn-all, moves-on}
+use Rattle.convert.proofs.PieceRuns.{Fit, Moved, onward, moves, moves-unless, moves-then, pieceOn-valid, pieceOn-all, pieceOn-enough, moves-on}
 use Rattle.convert.proofs.PieceSteps.{stepIn-sound}
 use Rattle.convert.proofs.PieceStops.{stepIn-pieceable}
 use Rattle.convert.proofs.PieceKept.{begun-[]}
@@ -64,9 +64,9 @@ due-placed ToUnicode e zero = refl
 due-placed ToUnicode e (suc zero) = refl
 due-placed ToUnicode e (suc (suc st)) = refl
 
-ample : (way : Way) (e : Scheme) (c : PieceCall) (k : Carry) → c .came ≡ keptAs k → Ample way e c → length (dueIn way e (k .state)) + 4 ≤ c .room
-ample way e c k z h =
-    subst (λ (s : List ℕ). length s + 4 ≤ c .room) (ap (λ (x : Kept). dueIn way e (stateAt (x .mark))) z ∙ due-placed way e (k .state)) h
+ample : (way : Way) (e : Scheme) (n : ℕ) (c : PieceCall) (k : Carry) → c .came ≡ keptAs k → Ample way e n c → length (dueIn way e (k .state)) + 4 * n ≤ c .room
+ample way e n c k z h =
+    subst (λ (s : List ℕ). length s + 4 * n ≤ c .room) (ap (λ (x : Kept). dueIn way e (stateAt (x .mark))) z ∙ due-placed way e (k .state)) h
 
 -- ## One call
 
@@ -119,26 +119,29 @@ module _ (way : Way) (e : Scheme) (t : Table) (settings : Settings) where
       (λ q. f (leb-true _ _ q)) (λ q. g (leb-false _ _ q))
 
   -- what holds of each call: where it began, its piece and space, what it did
-  pub record OfCall (need : ℕ) (k : Carry) (piece : List ℕ) (room : ℕ) (a : PieceRun) : Type 0 where
+  pub record OfCall (due : ℕ) (k : Carry) (piece : List ℕ) (room : ℕ) (a : PieceRun) : Type 0 where
     pub valid : a .end ≡ BadTable → ⊥
     pub few : length (a .carry .bytes) ≤ 3
     pub all : a .end ≡ AllRead → a .read ≡ length piece
-    pub moves : need ≤ room → a .end ≡ OutputFull → (0 < a .read) ⊎ (length (a .carry .bytes) < length (k .bytes))
+    pub moves : due + 4 * 1 ≤ room → a .end ≡ OutputFull → (0 < a .read) ⊎ (length (a .carry .bytes) < length (k .bytes))
+    pub never-full : due + 4 * (length (k .bytes) + length piece) ≤ room → a .end ≡ OutputFull → ⊥
 
   module _ (most : AtMost 4 step) where
-    ofCall-on : (need : ℕ) (k : Carry) (piece : List ℕ) (room left : ℕ) → (need ≤ room → 4 ≤ left) → length (pieceOn step k piece left .carry .bytes) ≤ 3
-        → (o : Option Stop) → length (k .bytes) ≤ 3 → OfCall need k piece room (unless o k (pieceOn step k piece left))
-    ofCall-on need k piece room left l few none f = record {
+    ofCall-on : (due : ℕ) (k : Carry) (piece : List ℕ) (room left : ℕ) → room ≤ due + left → length (pieceOn step k piece left .carry .bytes) ≤ 3
+        → (o : Option Stop) → length (k .bytes) ≤ 3 → OfCall due k piece room (unless o k (pieceOn step k piece left))
+    ofCall-on due k piece room left l few none f = record {
       valid = pieceOn-valid step so k piece left;
       few = few;
       all = pieceOn-all step so k piece left;
-      moves = λ y. moves-on step so k piece left 4 most (l y);
+      moves = λ y. moves-on step so k piece left 4 most (omega arith);
+      never-full = λ y. pieceOn-enough step so k piece left most (omega arith);
     }
-    ofCall-on need k piece room left l few (some w) f = record {
+    ofCall-on due k piece room left l few (some w) f = record {
       valid = λ z. let z : _≡_ {A = ℕ} 0 1 = cc in omega arith;
       few = f;
       all = λ z. absurd (let z : _≡_ {A = ℕ} 0 1 = cc in omega arith);
       moves = λ y z. absurd (let z : _≡_ {A = ℕ} 0 1 = cc in omega arith);
+      never-full = λ y z. let z : _≡_ {A = ℕ} 0 1 = cc in omega arith;
     }
 
     -- ## Calls one after the other
@@ -160,7 +163,7 @@ module _ (way : Way) (e : Scheme) (t : Table) (settings : Settings) where
       -- one more
       pub record OneMore (d : PieceRun) (piece : List ℕ) (room : ℕ) (a : PieceRun) : Type 0 where
         pub doing : Doing (onward d a)
-        pub of : OfCall (length (dueIn way e (d .carry .state)) + 4) (d .carry) piece room a
+        pub of : OfCall (length (dueIn way e (d .carry .state))) (d .carry) piece room a
 
       fit-first : Fit step first frame
       fit-first = record { few = omega arith; stands = λ w z. absurd (let z : _≡_ {A = ℕ} 0 1 = cc in omega arith); waits = λ z y. absurd (omega arith) }
@@ -190,8 +193,8 @@ module _ (way : Way) (e : Scheme) (t : Table) (settings : Settings) where
                 held = Held-piece way e t settings first piece (room - length mark) Held-first (byte-piece 0 u) _ (v .fit);
               });
               of =
-                  let c = ofCall-on (length mark + 4) first piece room (room - length mark) (λ y. omega arith) (v .fit .few) none (omega arith) in
-                  record { valid = c .valid; few = c .few; all = c .all; moves = c .moves };
+                  let c = ofCall-on (length mark) first piece room (room - length mark) (omega arith) (v .fit .few) none (omega arith) in
+                  record { valid = c .valid; few = c .few; all = c .all; moves = c .moves; never-full = c .never-full };
             })
             (λ l. record {
               doing = inl (record {
@@ -203,6 +206,7 @@ module _ (way : Way) (e : Scheme) (t : Table) (settings : Settings) where
                 few = omega arith;
                 all = λ z. absurd (let z : _≡_ {A = ℕ} 0 1 = cc in omega arith);
                 moves = λ y z. absurd (omega arith);
+                never-full = λ y z. omega arith;
               };
             })
 
@@ -236,7 +240,7 @@ module _ (way : Way) (e : Scheme) (t : Table) (settings : Settings) where
                       (moves-unless step so pe k piece rest room _ goes-fit goes-enough o z));
                   held = goes-held o;
                 });
-                of = ofCall-on (length (dueIn way e (k .state)) + 4) k piece room room (λ y. omega arith) (goes-moved .fit .few) o (h .few);
+                of = ofCall-on (length (dueIn way e (k .state))) k piece room room (omega arith) (goes-moved .fit .few) o (h .few);
               }
 
           more-goes : OneMore (led mark sub) piece room (pieceIn way e t settings k piece room)
@@ -261,7 +265,8 @@ module _ (way : Way) (e : Scheme) (t : Table) (settings : Settings) where
         pub unrefused : Unrefused c
         pub few : c .kept .bytes .len ≤ 3
         pub all : c .end ≡ Ended AllRead → c .read ≡ length (c .piece)
-        pub moves : Ample way e c → c .end ≡ Ended OutputFull → (0 < c .read) ⊎ (c .kept .bytes .len < c .came .bytes .len)
+        pub moves : Ample way e 1 c → c .end ≡ Ended OutputFull → (0 < c .read) ⊎ (c .kept .bytes .len < c .came .bytes .len)
+        pub never-full : Ample way e (c .came .bytes .len + length (c .piece)) c → c .end ≡ Ended OutputFull → ⊥
 
       module _ (tested : Kept → List ℕ → ℕ → PieceAnswer)
           (tell : (k : Carry) → Passes way e t settings k → (piece : List ℕ) (room : ℕ)
@@ -277,7 +282,7 @@ module _ (way : Way) (e : Scheme) (t : Table) (settings : Settings) where
           pub each : All Each cs
 
         module _ (c : PieceCall) (d : PieceRun) (a : PieceRun) (is : answerIn c ≡ answeredPiece a) (came : c .came ≡ keptAs (d .carry))
-            (of : OfCall (length (dueIn way e (d .carry .state)) + 4) (d .carry) (c .piece) (c .room) a) where
+            (of : OfCall (length (dueIn way e (d .carry .state))) (d .carry) (c .piece) (c .room) a) where
           each-one : Each c
           each-one =
               let end : c .end ≡ Ended (a .end) = ap (λ (x : PieceAnswer). x .end) is in
@@ -288,7 +293,8 @@ module _ (way : Way) (e : Scheme) (t : Table) (settings : Settings) where
                 unrefused = (a .end, end, of .valid);
                 few = rw len (of .few);
                 all = λ z. let y : a .end ≡ AllRead = cc in read ∙ of .all y;
-                moves = λ l z. let y : a .end ≡ OutputFull = cc in rw (read, len, old) (of .moves (ample way e c (d .carry) came l) y);
+                moves = λ l z. let y : a .end ≡ OutputFull = cc in rw (read, len, old) (of .moves (ample way e 1 c (d .carry) came l) y);
+                never-full = λ l z. let y : a .end ≡ OutputFull = cc in of .never-full (rw old at (ample way e _ c (d .carry) came l)) y;
               }
 
         pub all-done : (cs : List PieceCall) (d : PieceRun) → Doing d → InTurn (drop (d .read) frame) (keptAs (d .carry)) cs

@@ -1,5 +1,5 @@
 -- The conversions by a table in a scheme: the mark, and then what they are in the scheme's side.
--- to-more-room, from-more-room   more space changes nothing      room-enough       four places for each byte, and the mark's
+-- to-more-room, from-more-room   more space changes nothing      room-enough, from-room-enough   four places for each byte, and the mark's
 -- text-so-far, text-whole   what is written reads back in its scheme        well-formed-in    and is well formed in it
 -- there-in, back-in   a frame of codes that round-trip            round-trip-runs   one code that does
 use mathlib.Core.Path.{_≡_, refl, sym, ap, subst, _∙_}
@@ -30,17 +30,18 @@ use Rattle.table.specs.Codes.{AllByte}
 use Rattle.table.specs.Meaning.{Table, stepsOf}
 use Rattle.table.specs.Rules.{t6, Keeps}
 use Rattle.convert.specs.Run.{Run, runOf, after}
-use Rattle.convert.specs.Step.{strict}
+use Rattle.convert.specs.Step.{strict, toStep, fromStep}
 use Rattle.convert.specs.Convert.{markOf, toSide, fromSide, toRun, fromRun}
 use Rattle.convert.specs.Claims.{WellFormedText, pointsIn, textStep, allRead, ReadsAs, ReadsAsFirst, RoundTrips, RoundTripCode, frameOf}
 use Rattle.convert.specs.loops.Laws.{NotFull, spell, RoundTripsByRuns, pointsOf}
 use Rattle.convert.specs.declared.RunEnd.the-variants.{AllRead}
 use Rattle.convert.specs.declared.Settings.{Settings}
-use Rattle.convert.proofs.Whole.{more-room}
+use Rattle.convert.proofs.Whole.{more-room, four-enough}
 use Rattle.convert.proofs.PlainSteps.{lawful}
 use Rattle.convert.proofs.Steps.{to-sound, from-sound}
-use Rattle.convert.proofs.Text.{Spelt, spelt, reads-back, side-enough, spell-flat}
-use Rattle.convert.proofs.Schemes.{writeIn-mark, writeIn-case, writeIn-more, readIn-mark, readIn-more}
+use Rattle.convert.proofs.Text.{Spelt, spelt, reads-back, spell-flat}
+use Rattle.convert.proofs.Schemes.{writeIn-mark, writeIn-case, writeIn-more, readIn-mark, readIn-case, readIn-more}
+use Rattle.convert.proofs.FourEach.{to-four, from-four}
 use Rattle.convert.proofs.ThereAndBack.{there, back}
 use Rattle.convert.proofs.RoundTrips.{round-trip-side}
 
@@ -99,7 +100,7 @@ module _ (e : Scheme) (t : Table) (settings : Settings) where
   pub room-enough : (s : List ℕ) (room : ℕ) → length (markOf e) + 4 * length s ≤ room → NotFull (toRun e t settings s room)
   room-enough s room h f =
       let w = writeIn-mark (λ u. toSide u t settings s) e room (omega arith) in
-      side-enough (sideOf e) (lawful e) t settings s 0 (room - length (markOf e)) (omega arith) (ap (λ (r : Run). r .end) (sym w) ∙ f)
+      four-enough (toStep (sideOf e) t settings) (to-sound (sideOf e) t settings) (to-four (sideOf e) (lawful e) t settings) s 0 (room - length (markOf e)) (omega arith) (ap (λ (r : Run). r .end) (sym w) ∙ f)
 
   -- ## Text
 
@@ -154,6 +155,13 @@ module _ (e : Scheme) (t : Table) (settings : Settings) where
 pub from-more-room : (e : Scheme) (t : Table) (settings : Settings) (s : List ℕ) (room m : ℕ)
     → NotFull (fromRun e t settings s room) → fromRun e t settings s (room + m) ≡ fromRun e t settings s room
 from-more-room e t settings = readIn-more (λ u. fromSide u t settings) (λ u law s room m. more-room _ (from-sound u law t settings) s 0 room m) e
+
+pub from-room-enough : (lim : Limits) (t : Table) → Keeps lim t → AllByte (t .subchar) → (e : Scheme) (settings : Settings) (s : List ℕ) (room : ℕ)
+    → 4 * length s ≤ room → NotFull (fromRun e t settings s room)
+from-room-enough lim t keeps bytes e settings s room h =
+    readIn-case (λ u. fromSide u t settings) NotFull e s room
+    (λ u law unit rest l. four-enough (fromStep u t settings) (from-sound u law t settings) (from-four lim t keeps bytes u settings) rest 0 room (omega arith))
+    (λ r f. f)
 
 -- ## There and back
 

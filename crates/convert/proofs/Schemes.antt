@@ -7,7 +7,7 @@ use mathlib.Core.List.{List, [], _++_}
 use native.Mathlib.Omega.{arith}
 use borrow.Author.Tests.{le-leb, lt-leb, leb-true, leb-false}
 use lib.Dec.{leb}
-use lib.ListN.{length, drop}
+use lib.ListN.{length, drop, length-drop}
 use lib.Seq.{drop-append-seam}
 use Rattle.lists.proofs.Cases.{pick-case}
 use Rattle.unicode.specs.Utf32.{markIn, markAt}
@@ -97,20 +97,21 @@ module _ (run : Side → List ℕ → ℕ → Run) where
   readIn-mark scheme.Utf32 s room = mark-chooses Big s room ∙ ap (λ (n : ℕ). after n [] (run (utf32 Big) s room)) (sym length-mark)
 
   behind-case : (P : Run → Type 0) (k : Mark) (s : List ℕ) (room : ℕ)
-      → ((u : Side) → LawfulSide u → u .unit ≡ 4 → (s : List ℕ) → P (run u s room))
+      → ((u : Side) → LawfulSide u → u .unit ≡ 4 → (rest : List ℕ) → length rest ≤ length s → P (run u rest room))
       → ((r : Run) → P r → P (after 4 [] r))
       → P (behindMark k run s room)
-  behind-case P mark.None s room plain behind = plain (utf32 Big) (utf32-lawful Big) refl s
-  behind-case P (mark.Of order) s room plain behind = behind _ (plain (utf32 order) (utf32-lawful order) refl (drop 4 s))
+  behind-case P mark.None s room plain behind = plain (utf32 Big) (utf32-lawful Big) refl s (omega arith)
+  behind-case P (mark.Of order) s room plain behind =
+      behind _ (plain (utf32 order) (utf32-lawful order) refl (drop 4 s) (omega (arith, length-drop 4 s)))
 
   -- what holds in each side of the scheme, and behind a mark too
   pub readIn-case : (P : Run → Type 0) (e : Scheme) (s : List ℕ) (room : ℕ)
-      → ((u : Side) → LawfulSide u → u .unit ≡ sideOf e .unit → (s : List ℕ) → P (run u s room))
+      → ((u : Side) → LawfulSide u → u .unit ≡ sideOf e .unit → (rest : List ℕ) → length rest ≤ length s → P (run u rest room))
       → ((r : Run) → P r → P (after 4 [] r))
       → P (readIn e run s room)
-  readIn-case P scheme.Utf8 s room plain behind = plain utf8 utf8-lawful refl s
-  readIn-case P scheme.Utf32Be s room plain behind = plain (utf32 Big) (utf32-lawful Big) refl s
-  readIn-case P scheme.Utf32Le s room plain behind = plain (utf32 Little) (utf32-lawful Little) refl s
+  readIn-case P scheme.Utf8 s room plain behind = plain utf8 utf8-lawful refl s (omega arith)
+  readIn-case P scheme.Utf32Be s room plain behind = plain (utf32 Big) (utf32-lawful Big) refl s (omega arith)
+  readIn-case P scheme.Utf32Le s room plain behind = plain (utf32 Little) (utf32-lawful Little) refl s (omega arith)
   readIn-case P scheme.Utf32 s room plain behind = behind-case P (markAt s) s room plain behind
 
   behind-more : ((u : Side) → LawfulSide u → (s : List ℕ) (room m : ℕ) → NotFull (run u s room) → run u s (room + m) ≡ run u s room)

@@ -160,11 +160,11 @@ module _ (e : Scheme) (t : Table) (settings : Settings) (s : List ℕ) (room : �
   pub from-legal : settings .skip ≡ true → Illegally (fromRun e t settings s room) → ⊥
   from-legal on =
       readIn-case (λ u. fromSide u t settings) (λ (r : Run). Illegally r → ⊥) e s room
-      (λ u law unit x f. from-side-legal u law t settings on x room f)
+      (λ u law unit x l f. from-side-legal u law t settings on x room f)
       (λ r ih f. ih f)
 
   pub from-length : (n : ℕ) → fromRun e t settings s room .end ≡ Stopped (stopped.Illegal n) → n ≡ sideOf e .unit
   from-length n =
       readIn-case (λ u. fromSide u t settings) (λ (r : Run). r .end ≡ Stopped (stopped.Illegal n) → n ≡ sideOf e .unit) e s room
-      (λ u law unit x f. sym (unit-length u law t settings x room n f) ∙ unit)
+      (λ u law unit x l f. sym (unit-length u law t settings x room n f) ∙ unit)
       (λ r ih f. ih f)

@@ -3,12 +3,11 @@
 -- to-gives, from-gives      by what was read                      from-stopped    at a stop of the decoder
 -- toStep⇒Encoded            what is given towards Unicode is a code point, the same on every side of it
 use mathlib.Core.Path.{_≡_, refl, ap, _∙_}
-use Prim.Native.Nat.{ℕ, _≤_}
+use Prim.Native.Nat.{ℕ}
 use mathlib.Core.Bool.{Bool, true, false}
 use mathlib.Core.List.{List}
 use mathlib.Core.Option.{Option, none, some}
 use native.Mathlib.Omega.{arith}
-use lib.ListN.{length}
 use Rattle.lists.specs.Tests.{allOf}
 use Rattle.unicode.specs.Utf8.{Scalar}
 use Rattle.unicode.specs.Scheme.{Side}
@@ -88,12 +87,6 @@ module _ (t : Table) (settings : Settings) (row : ℕ) where
   stops-alike u v s w e =
       let k = stopped-by (settings .skip) (u .encode 0xfffd) row (toPlain u t settings row s) w e in
       ap (skipped (settings .skip) (v .encode 0xfffd) row) (to-stops t settings row u v s w (k .0)) ∙ k .1 (v .encode 0xfffd)
-
--- a sequence gives at most four bytes of Unicode
-pub four-bytes : (u : Side) → LawfulSide u → (t : Table) (settings : Settings) (row : ℕ) (s bs : List ℕ) (n next : ℕ) → toStep u t settings row s ≡ give bs n next → length bs ≤ 4
-four-bytes u law t settings row s bs n next e =
-    let k = toStep⇒Encoded t settings row u s bs n next e in
-    omega (arith, law .few (k .point), ap length (k .spelt))
 
 -- FROM UNICODE
 -- skipping leaves a code point alone

@@ -1,6 +1,6 @@
 -- What is written towards Unicode, with no mark, is text: code points of the input, spelt out, which read back as themselves; and how much room they need.
 use mathlib.Core.Path.{_≡_, refl, sym, ap, subst, _∙_}
-use Prim.Native.Nat.{ℕ, _-_, _*_, _≤_, _<_}
+use Prim.Native.Nat.{ℕ, _-_, _≤_, _<_}
 use mathlib.Core.List.{List, [], _∷_, _++_, map, flatten}
 use mathlib.Core.Bool.{true}
 use native.Mathlib.Omega.{arith}
@@ -18,7 +18,7 @@ use Rattle.convert.specs.loops.Laws.{NotFull, spell}
 use Rattle.convert.specs.declared.RunEnd.the-variants.{OutputFull, Stopped}
 use Rattle.convert.specs.declared.Settings.{Settings}
 use Rattle.convert.proofs.Runs.{run-stop, run-more, every-run}
-use Rattle.convert.proofs.Steps.{toStep⇒Encoded, stops-alike, to-sound, four-bytes}
+use Rattle.convert.proofs.Steps.{toStep⇒Encoded, stops-alike, to-sound}
 use Rattle.convert.proofs.Whole.{InputOutput, inputs, outputs, GivesAll, runOf-GivesAll}
 use Rattle.lists.specs.Order.{All as Every}
 use Rattle.convert.specs.loops.Inner.{LawfulSide}
@@ -104,19 +104,6 @@ module _ (u : Side) (law : LawfulSide u) where
       let b = spell-out u cs in
       let l : length (outputs (spellings u cs)) ≤ length cs = rw b (omega arith) in
       rw (spell-in u cs) at (rw b at (runOf-GivesAll (textStep u) (spellings u cs) (length cs) (spell-gives cs s) l))
-
-  -- four places to each byte of the input are enough
-  pub side-enough : (t : Table) (settings : Settings) (s : List ℕ) (row room : ℕ) → 4 * length s ≤ room → NotFull (runOf (toStep u t settings) row 0 s room)
-  side-enough t settings =
-      every-run (toStep u t settings) (to-sound u t settings) (λ row s room r. 4 * length s ≤ room → NotFull r)
-      (λ row room h f. let z : _≡_ {A = ℕ} 0 1 = cc in omega arith)
-      (λ row s room h w e l f. let z : _≡_ {A = ℕ} 0 1 = cc in omega arith)
-      (λ row s room h bs n next e l k f. let b = four-bytes u law t settings row s bs n next e in omega arith)
-      (λ row s room h bs n next e l r ih k f.
-      let b = four-bytes u law t settings row s bs n next e in
-      let w = to-sound u t settings .some row s bs n next e in
-      let v = to-sound u t settings .within row s bs n next e in
-      ih (omega (arith, length-drop n s)) f)
 
 pub spell-flat : (u : Side) (cs : List ℕ) → spell u cs ≡ flatten (map (u .encode) cs)
 unfolding spell flatten

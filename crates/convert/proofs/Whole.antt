@@ -1,6 +1,6 @@
 -- Laws of any run whose step is sound: more space, more input, joined inputs, and an input made of sequences.
 use mathlib.Core.Path.{_≡_, refl, sym, ap, _∙_}
-use Prim.Native.Nat.{ℕ, _+_, _-_, _≤_, _<_}
+use Prim.Native.Nat.{ℕ, _+_, _-_, _*_, _≤_, _<_}
 use mathlib.Core.List.{List, [], _∷_, _++_, append-nil}
 use native.Mathlib.Omega.{arith}
 use native.Mathlib.Nat.{add-zero}
@@ -9,7 +9,7 @@ use lib.Seq.{drop-append-le, drop-append-seam, drop-drop, drop-length}
 use Rattle.unicode.specs.declared.utf8.Stop.{Stop}
 use Rattle.convert.specs.Run.{give, stop, SequenceStep, Run, runOf, after, endedWith}
 use Rattle.convert.specs.Claims.{allRead}
-use Rattle.convert.specs.loops.Inner.{Sound, Stays}
+use Rattle.convert.specs.loops.Inner.{Sound, AtMost, Stays}
 use Rattle.convert.specs.loops.Laws.{NotFull}
 use Rattle.convert.specs.declared.RunEnd.{RunEnd}
 use Rattle.convert.specs.declared.RunEnd.the-variants.{AllRead, OutputFull, Stopped}
@@ -43,6 +43,19 @@ module _ (step : SequenceStep) (so : Sound step) where
   -- so does more space
   pub more-room : (s : List ℕ) (st room m : ℕ) → NotFull (runOf step st 0 s room) → runOf step st 0 s (room + m) ≡ runOf step st 0 s room
   more-room s st room m f = room-alike s st room f (room + m) (omega (arith, fits s st room))
+
+  -- where a sequence gives at most four bytes, four places to each byte of the input are enough
+  pub four-enough : AtMost 4 step → (s : List ℕ) (st room : ℕ) → 4 * length s ≤ room → NotFull (runOf step st 0 s room)
+  four-enough most =
+      every-run step so (λ st s room r. 4 * length s ≤ room → NotFull r)
+      (λ st room h f. let z : _≡_ {A = ℕ} 0 1 = cc in omega arith)
+      (λ st s room h w e l f. let z : _≡_ {A = ℕ} 0 1 = cc in omega arith)
+      (λ st s room h bs n next e l k f. omega (arith, most st s bs n next e))
+      (λ st s room h bs n next e l r ih k f.
+      let b = most st s bs n next e in
+      let w = so .some st s bs n next e in
+      let v = so .within st s bs n next e in
+      ih (omega (arith, length-drop n s)) f)
 
   -- no more is read than there is
   pub reads-within : (s : List ℕ) (st room : ℕ) → runOf step st 0 s room .read ≤ length s

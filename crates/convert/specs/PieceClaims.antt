@@ -1,6 +1,6 @@
 -- What is claimed of any list of calls that convert a frame in pieces, and then close it (document 02, request 4).
 -- It is promised of calls as `all-pieces` in promises/specs/Promises.antt.
-use Prim.Native.Nat.{ℕ, _+_, _<_, _≤_}
+use Prim.Native.Nat.{ℕ, _+_, _*_, _<_, _≤_}
 use mathlib.Core.Path.{_≡_}
 use mathlib.Core.Logic.{_⊎_}
 use mathlib.Core.List.{List, [], _∷_, _++_}
@@ -82,9 +82,9 @@ pub record SameAsWhole (whole : Run) (cs : List PieceCall) : Type 0 where
 abbrev pub Unrefused : PieceCall → Type 0
 Unrefused c = (h : RunEnd) × (c .end ≡ Ended h) × (h ≡ BadTable → ⊥)
 
--- space for the longest output of one sequence, four bytes, behind a mark that is still to be written
-abbrev pub Ample : Way → Scheme → PieceCall → Type 0
-Ample way e c = length (dueIn way e (stateAt (c .came .mark))) + 4 ≤ c .room
+-- space for the longest output of n sequences, four bytes each, behind a mark that is still to be written
+abbrev pub Ample : Way → Scheme → ℕ → PieceCall → Type 0
+Ample way e n c = length (dueIn way e (stateAt (c .came .mark))) + 4 * n ≤ c .room
 
 -- THE CLAIM: calls on a frame, and closes behind them, where `whole` is the conversion in one piece with space enough
 pub record InPieces (way : Way) (e : Scheme) (whole : Run) (frame : List ℕ) (cs closes : List PieceCall) : Type 0 where
@@ -100,7 +100,9 @@ pub record InPieces (way : Way) (e : Scheme) (whole : Run) (frame : List ℕ) (c
   -- where all is read, the closes, once the last is not 50, end as the whole conversion does
   pub ends : readBy cs ≡ length frame → (lastEnd (Ended OutputFull) closes ≡ Ended OutputFull → ⊥)
       → SameAsWhole whole (cs ++ closes)
-  -- 0 has read all that was offered; 50 with space enough for one sequence reads a byte or keeps fewer
+  -- 0 has read all that was offered; 50 with space enough for one sequence reads a byte or keeps fewer, and with space
+  -- for each byte, kept or offered, there is no 50
   pub all-read : All (λ c. c .end ≡ Ended AllRead → c .read ≡ length (c .piece)) cs
-  pub moves : All (λ c. Ample way e c → c .end ≡ Ended OutputFull
+  pub moves : All (λ c. Ample way e 1 c → c .end ≡ Ended OutputFull
       → (0 < c .read) ⊎ (c .kept .bytes .len < c .came .bytes .len)) cs
+  pub never-full : All (λ c. Ample way e (c .came .bytes .len + length (c .piece)) c → c .end ≡ Ended OutputFull → ⊥) cs

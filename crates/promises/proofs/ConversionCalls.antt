@@ -147,6 +147,11 @@ module _ (l : LoadCall) (t : Table) (a : AcceptedAs l t) where
   room-enough c o h f =
       scheme.room-enough (schemeOf c) t (settingsOf c) (inputOf c) (length (outputLent c)) h (sym (ended c _ (to-by-text c o)) ∙ f)
 
+  pub from-room-enough : (c : FromCall) → OnLoaded l c → 4 * length (inputOf c) ≤ length (outputLent c) → c .result .end ≡ OutputFull → ⊥
+  from-room-enough c o h f =
+      let f′ = leaves-form l t a in
+      scheme.from-room-enough limits t (f′ .1) (f′ .0 .sub-bytes) (schemeOf c) (settingsOf c) (inputOf c) (length (outputLent c)) h (sym (ended c _ (from-by-text c o)) ∙ f)
+
 -- ## Two calls on one question with different space
 
 module _ {Post : Out 6 of-to-unicode.ps of-to-unicode.r} (run : Scheme → Settings → List ℕ → ℕ → Run)

@@ -111,6 +111,7 @@ demand2 =
       reads-back-whole = conversions.reads-back-whole;
       prefix-free = λ t s r i j. prefix-free (stepsOf t) (no-ends-zero (t .rows)) 4 0 s r i j;
       room-enough = conversions.room-enough;
+      from-room-enough = conversions.from-room-enough;
       to-more-space = conversions.to-more-space;
       from-more-space = conversions.from-more-space;
       there-and-back = conversions.there-and-back;

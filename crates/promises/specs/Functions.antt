@@ -95,7 +95,7 @@ pub record AskNothing : Type 1 where
   pub report-last-asks : (κs : Lfts 6) (args : Dens κs of-report-last.ps) → report-last.Pre κs args
   pub list-codes-asks : (κs : Lfts 5) (args : Dens κs of-list-codes.ps) → list-codes.Pre κs args
   pub report-closing-asks : (κs : Lfts 1) (args : Dens κs of-report-closing.ps) → report-closing.Pre κs args
-  pub oboepond-load-asks : (κs : Lfts 6) (args : Dens κs of-oboepond-load.ps) → oboepond-load.Pre κs args
+  pub oboepond-load-asks : (κs : Lfts 7) (args : Dens κs of-oboepond-load.ps) → oboepond-load.Pre κs args
   pub oboepond-check-asks : (κs : Lfts 5) (args : Dens κs of-oboepond-check.ps) → oboepond-check.Pre κs args
   pub oboepond-to-unicode-asks : (κs : Lfts 8) (args : Dens κs of-oboepond-to-unicode.ps)
       → oboepond-to-unicode.Pre κs args

@@ -226,6 +226,9 @@ pub record Demand2 : Type 1 where
   pub room-enough : (l : LoadCall) (t : Table) → AcceptedAs l t → (c : ToCall) → OnLoaded l c
       → length (markOf (schemeOf c)) + 4 * length (inputOf c) ≤ length (outputLent c)
       → c .result .end ≡ OutputFull → ⊥
+  -- and from Unicode, where no mark is written, four bytes to each byte
+  pub from-room-enough : (l : LoadCall) (t : Table) → AcceptedAs l t → (c : FromCall) → OnLoaded l c
+      → 4 * length (inputOf c) ≤ length (outputLent c) → c .result .end ≡ OutputFull → ⊥
   -- more space changes nothing unless the answer was 50
   pub to-more-space : (l : LoadCall) (t : Table) → AcceptedAs l t → (c d : ToCall) → OnLoaded l c → OnLoaded l d
       → inputOf d ≡ inputOf c → settingsOf d ≡ settingsOf c → schemeOf d ≡ schemeOf c

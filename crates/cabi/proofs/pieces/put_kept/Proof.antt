@@ -3,8 +3,8 @@ use mathlib.Core.Path.{_∙_}
 use mathlib.Core.List.{[], _∷_}
 use native.Mathlib.Omega.{arith}
 use lib.ListN.{length-set}
+use lib.Seq.{sets-eq}
 use Rattle.cabi.specs.Exported.{withNumbers}
-use Rattle.cabi.proofs.PieceAnswers.{put-five}
 use borrow.Author.Needs.{needs}
 use Rattle.cabi.proofs.pieces.put_kept.Statement.{statement}
 use Rattle.cabi.proofs.pieces.put_kept.Tie as tie
@@ -26,7 +26,7 @@ returns c =
     let start = c .before .before .before .before .before in
     let k = start .args .kept in
     let old = start .args .numbers .now in
-    put-five (k .bytes .bits) (k .bytes .len) (c .before .before .mark-number .result) (c .before .standing-number .result) (c .standing-length .result) old (start .pre .0)
+    sets-eq (k .bytes .bits ∷ k .bytes .len ∷ c .before .before .mark-number .result ∷ c .before .standing-number .result ∷ c .standing-length .result ∷ []) old 0 (start .pre .0)
     ∙ (λ i. withNumbers (k .bytes .bits ∷ k .bytes .len ∷ c .before .before .mark-number .ensures i ∷ c .before .standing-number .ensures i ∷ c .standing-length .ensures i ∷ []) old)
 
 pub put-kept-spec : {M : Type 1} → statement M
