@@ -4,9 +4,9 @@
 -- call on a table and on lent memory (`audit_tested`); entries as numbers, and what a call hands back and leaves in its
 -- space.
 -- Cases: specs/Cases.antt
-use Rattle.std.specs.Prelude.{ℕ, zero, suc, ◌+◌, ◌*◌, ◌/◌, ◌%◌, Bool, false, List, [], ◌++◌, map, eqb, length, drop}
+use Rattle.std.specs.Prelude.{if◌then◌else◌, ℕ, zero, suc, ◌+◌, ◌*◌, ◌/◌, ◌%◌, Bool, false, List, [], ◌++◌, map, eqb, length, drop}
 use Rattle.std.proofs.Math.Option.{Option, none, some}
-use Rattle.lists.specs.Pick.{if◌then◌else◌, ◌and◌}
+use Rattle.lists.specs.Pick.{◌and◌}
 use Rattle.lists.specs.Paging.{Pageable, Page, map_position, stopped_at, entries_for, page_from}
 use Rattle.table.specs.Limits.{Limits}
 use Rattle.table.specs.States.{Rows, end_kind, is_code}

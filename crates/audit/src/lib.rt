@@ -1,5 +1,7 @@
 // The audit of codes: which complete codes of a table do not round-trip, a page at a time.
-ghost use Rattle.std.specs.Prelude.{◌≡◌, true, eqb, length};
+#![tactic(auto)]
+
+ghost use Rattle.std.specs.Prelude.{if◌then◌else◌, ◌≡◌, true, eqb, length};
 ghost use Rattle.lists.specs.Paging.{page_from};
 ghost use Rattle.lists.specs.Options.{is_none};
 ghost use Rattle.table.specs.Limits.{limits};
@@ -14,7 +16,6 @@ ghost use Rattle.audit.specs.Audit.{cause_of, next_bytes, pageable_codes, ending
 ghost use Rattle.audit.specs.Audit.{looked};
 ghost use Rattle.audit.specs.Audit.{is_position, audit_tested, entry_number, entry_in, audited_of, space_after};
 ghost use Rattle.audit.specs.loops.Inner.{looked_to};
-ghost use Rattle.lists.specs.Pick.{if◌then◌else◌};
 
 use convert::{ReadAs, WrittenAs, read_as, write_as};
 use table::codes::Next;
@@ -22,7 +23,7 @@ use table::states::Code;
 use table::valid::Record;
 
 // How an audit call ends, by number.
-#[derive(Drop)]
+#[derive(Clone, Copy)]
 pub enum Ending {
     // 0: codes were looked at. Unless `finished`, call again from the position that came back.
     Looked,
@@ -34,7 +35,7 @@ pub enum Ending {
 
 // What a call hands back: how it ended, how many entries it wrote, the position of the last code looked at (or the old
 // position), whether no complete code follows it, and how many codes were looked at.
-#[derive(Drop)]
+#[derive(Clone, Copy)]
 pub struct Audited {
     pub ending: Ending,
     pub written: usize,
@@ -44,7 +45,7 @@ pub struct Audited {
 }
 
 // A code that does not round-trip, and its cause.
-#[derive(Drop)]
+#[derive(Clone, Copy)]
 pub struct AuditEntry {
     pub code: Code,
     pub cause: u32,

@@ -1,8 +1,8 @@
 -- What the functions exported to C answer, and what they leave in the lent slices, by document 01's own functions: the
 -- record as seven numbers, settings and the scheme as numbers, each answer as a number and a slice of results. 70 is
 -- the number for a slice that is too short, 71 for a number that is no scheme.
-use Rattle.std.specs.Prelude.{ℕ, Bool, not, List, [], ◌∷◌, eqb, ltb, leb, length, get_or}
-use Rattle.lists.specs.Pick.{if◌then◌else◌, ◌and◌, ◌or◌}
+use Rattle.std.specs.Prelude.{if◌then◌else◌, ℕ, Bool, not, List, [], ◌∷◌, eqb, ltb, leb, length, get_or}
+use Rattle.lists.specs.Pick.{◌and◌, ◌or◌}
 use Rattle.lists.specs.Place.{placed}
 use Rattle.utf.specs.Utf8.{stop_number}
 use Rattle.utf.specs.declared.utf8.Stop.TheVariants as stopped

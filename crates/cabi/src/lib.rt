@@ -1,9 +1,10 @@
 // The functions for C and Rust: each takes its arguments apart, calls the library, and writes the results into lent
 // slices.
+#![tactic(auto)]
+
 pub mod pieces;
 
-ghost use Rattle.std.specs.Prelude.{◌≡◌, [], ◌∷◌, ◌≤◌, length};
-ghost use Rattle.lists.specs.Pick.{if◌then◌else◌};
+ghost use Rattle.std.specs.Prelude.{if◌then◌else◌, ◌≡◌, [], ◌∷◌, ◌≤◌, length};
 ghost use Rattle.table.specs.Limits.{limits};
 ghost use Rattle.table.specs.Slices.{slices};
 ghost use Rattle.table.specs.Numbers.{answer_number};
@@ -30,7 +31,7 @@ pub(crate) const NO_SCHEME: u32 = 71;
 const UTF8: u32 = 0;
 
 // The scheme that a number names.
-#[derive(Drop)]
+#[derive(Clone, Copy)]
 pub(crate) enum Named {
     Of(Scheme),
     None,

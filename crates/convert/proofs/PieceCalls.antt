@@ -1,4 +1,5 @@
 -- Any list of calls on a frame, and closes behind them, give what the conversion in one piece gives (document 02, request 4).
+use Rattle.std.specs.Prelude.{if◌then◌else◌}
 use mathlib.Core.Path.{◌≡◌, refl, sym, ap, subst, ◌∙◌}
 use Prim.Native.Nat.{ℕ, ◌+◌, ◌-◌, ◌≤◌, ◌<◌}
 use mathlib.Core.List.{List, [], ◌∷◌, ◌++◌, append_assoc}
@@ -10,7 +11,6 @@ use borrow.Author.Tests.{leb-true, leb-false}
 use lib.Dec.{leb}
 use lib.ListN.{length}
 use Rattle.lists.specs.Order.{All}
-use Rattle.lists.specs.Pick.{if◌then◌else◌}
 use Rattle.lists.proofs.Append.{All-++⁺}
 use Rattle.lists.proofs.Order.{All-⇒}
 use Rattle.lists.proofs.Cases.{pick-case, pick_yes}

@@ -1,6 +1,7 @@
 -- Calls of a conversion in pieces, one after the other: each in the words of the claims, and what they did together against
 -- the conversion in one piece.
 -- Contents: one call; calls one after the other (`Doing`, `Done`); as the whole (`Told`).
+use Rattle.std.specs.Prelude.{if◌then◌else◌}
 use mathlib.Core.Path.{◌≡◌, refl, sym, ap, subst, ◌∙◌}
 use Prim.Native.Nat.{ℕ, zero, suc, ◌+◌, ◌-◌, ◌*◌, ◌≤◌, ◌<◌}
 use mathlib.Core.List.{List, [], ◌∷◌, ◌++◌, append-nil, append_assoc}
@@ -13,7 +14,6 @@ use lib.Dec.{leb}
 use lib.ListN.{length, drop, length-drop}
 use lib.Seq.{drop-drop}
 use Rattle.lists.specs.Order.{All}
-use Rattle.lists.specs.Pick.{if◌then◌else◌}
 use Rattle.lists.proofs.Laws.{drop_past}
 use Rattle.lists.proofs.Cases.{pick-case, pick_yes}
 use Rattle.utf.specs.declared.utf8.Stop.{Stop}

@@ -2,6 +2,7 @@
 -- skipping-sound   the step stays sound                          skipping-legal   52 is never given
 -- skipping-off     off, it is the step itself                    skipping-splits  on, the run splits at an illegal sequence
 -- part-alone       what a run read, converted by itself          length-alone     lengths touch nothing else of a run
+use Rattle.std.specs.Prelude.{if◌then◌else◌}
 use mathlib.Core.Path.{◌≡◌, refl, sym, ap, ◌∙◌}
 use Prim.Native.Nat.{ℕ, ◌+◌, ◌-◌, ◌≤◌, ◌<◌}
 use mathlib.Core.Bool.{Bool, true, false}
@@ -11,7 +12,6 @@ use borrow.Author.Tests.{leb-true, leb-false}
 use lib.Dec.{leb}
 use lib.ListN.{length, take, drop, length-append}
 use lib.Seq.{drop-drop, take-add, drop_at, length-take-le}
-use Rattle.lists.specs.Pick.{if◌then◌else◌}
 use Rattle.lists.proofs.Cases.{pick-case}
 use Rattle.utf.specs.declared.utf8.Stop.{Stop}
 use Rattle.utf.specs.declared.utf8.Stop.TheVariants as stopped

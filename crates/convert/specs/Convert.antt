@@ -1,8 +1,7 @@
 -- The two conversions (document 01, 'The two pipes'; document 02, request 1), in any scheme: the test behind 60 first,
 -- then the byte order mark of plain UTF-32, then the run from row 0.
 -- Cases: audit/specs/Cases.antt (the starred ones)
-use Rattle.std.specs.Prelude.{ℕ, ◌-◌, List, [], leb, drop}
-use Rattle.lists.specs.Pick.{if◌then◌else◌}
+use Rattle.std.specs.Prelude.{if◌then◌else◌, ℕ, ◌-◌, List, [], leb, drop}
 use Rattle.utf.specs.Utf32.{mark_in, mark_at}
 use Rattle.utf.specs.Scheme.{Side, utf8, utf32}
 use Rattle.utf.specs.declared.utf32.ByteOrder.TheVariants.{Big, Little}

@@ -1,8 +1,7 @@
 -- A conversion, whatever its step (document 01, 'The two pipes'): what is read and written until all is read, the
 -- output does not fit, or a sequence stops it; the numbers 0, 50, 51, 52, 53 and 60, and the length of what is illegal.
 -- The state is what the step hands on from one sequence to the next (an initial row; always 0 where a table has one).
-use Rattle.std.specs.Prelude.{ℕ, zero, suc, ◌+◌, ◌-◌, List, [], ◌∷◌, ◌++◌, leb, length, drop}
-use Rattle.lists.specs.Pick.{if◌then◌else◌}
+use Rattle.std.specs.Prelude.{if◌then◌else◌, ℕ, zero, suc, ◌+◌, ◌-◌, List, [], ◌∷◌, ◌++◌, leb, length, drop}
 use Rattle.utf.specs.Utf8.{stop_number}
 use Rattle.utf.specs.declared.utf8.Stop.{Stop}
 use Rattle.utf.specs.declared.utf8.Stop.TheVariants as stopped

@@ -2,9 +2,8 @@
 -- Substitute; document 02, request 3: skipping). The Unicode side is a parameter.
 -- Contents: settings; skipping, whatever the step (`skipping`); to Unicode: the code point of a code, or its substitute
 -- (`to_step`); from Unicode: what a code point is written as, or its substitute (`from_step`).
-use Rattle.std.specs.Prelude.{ℕ, ◌≡◌, List, [], ◌∷◌, Bool, true, false, eqb, take}
+use Rattle.std.specs.Prelude.{if◌then◌else◌, ℕ, ◌≡◌, List, [], ◌∷◌, Bool, true, false, eqb, take}
 use Rattle.std.proofs.Math.Option.{Option, none, some}
-use Rattle.lists.specs.Pick.{if◌then◌else◌}
 use Rattle.utf.specs.Scheme.{Side}
 use Rattle.utf.specs.declared.utf8.Sequence.{Sequence}
 use Rattle.utf.specs.declared.utf8.Sequence.TheVariants as sequence

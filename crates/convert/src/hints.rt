@@ -45,7 +45,7 @@ fn written_slot(info: u32) -> usize {
 }
 
 // Which of a stored line's two numbers a hint is found by.
-#[derive(Drop)]
+#[derive(Clone, Copy)]
 pub(crate) enum Key {
     Code,
     Point,

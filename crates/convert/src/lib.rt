@@ -1,8 +1,10 @@
 // The two conversions: from a table's bytes to Unicode, in UTF-8 or UTF-32, and back.
+#![tactic(auto)]
+
 mod hints;
 pub mod pieces;
 
-ghost use Rattle.std.specs.Prelude.{◌≡◌, true, List, [], ℕ, ◌+◌, ◌*◌, ◌≤◌, length, take, drop};
+ghost use Rattle.std.specs.Prelude.{if◌then◌else◌, ◌≡◌, true, List, [], ℕ, ◌+◌, ◌*◌, ◌≤◌, length, take, drop};
 ghost use Rattle.std.proofs.Math.Option.{none};
 ghost use Rattle.std.proofs.lemmas.List.Edits.{sets};
 ghost use Rattle.lists.specs.Place.{fits, placed};
@@ -21,7 +23,6 @@ ghost use Rattle.convert.specs.Step.{skipped, point_for, encoded, to_step, read_
 ghost use Rattle.convert.specs.Step.{written_by, written_in, OwnCode, sent_for, stopped_by, from_step, substituted};
 ghost use Rattle.convert.specs.loops.Inner.{sent_of};
 ghost use Rattle.convert.specs.Convert.{mark_of, read_in, to_side, from_side, to_run, from_run, to_tested, from_tested};
-ghost use Rattle.lists.specs.Pick.{if◌then◌else◌};
 
 use table::lookup::{Found, Use};
 use table::states::{Code, Cut, TOP};
@@ -34,7 +35,7 @@ use utf::utf32::Mark;
 const SHORT: usize = 64;
 
 // How a conversion ends, by number.
-#[derive(Drop)]
+#[derive(Clone, Copy)]
 pub enum RunEnd {
     // 0: all input is read.
     AllRead,
@@ -48,7 +49,7 @@ pub enum RunEnd {
 }
 
 // How a conversion ended, how many bytes it read, and how many it wrote.
-#[derive(Drop)]
+#[derive(Clone, Copy)]
 pub struct Converted {
     pub end: RunEnd,
     pub read: usize,
@@ -56,14 +57,14 @@ pub struct Converted {
 }
 
 // What a code reads as: a code point, or nothing where no line reads it.
-#[derive(Drop)]
+#[derive(Clone, Copy)]
 pub enum ReadAs {
     Point(u32),
     Nothing,
 }
 
 // What a code point is written as: its code, subchar1, or nothing where no line writes it.
-#[derive(Drop)]
+#[derive(Clone, Copy)]
 pub enum WrittenAs {
     Code(Code),
     Subchar1,
@@ -72,7 +73,7 @@ pub enum WrittenAs {
 
 // The settings of a conversion: whether `|1` lines are written (from Unicode only), whether a substitution character
 // stands for a sequence without a mapping, and whether an illegal sequence is skipped, with U+FFFD or subchar for it.
-#[derive(Drop)]
+#[derive(Clone, Copy)]
 pub struct Settings {
     pub fallback: bool,
     pub substitute: bool,
@@ -81,14 +82,14 @@ pub struct Settings {
 
 // The outcome of one sequence of Unicode: a code of the table (its bits and its length) and the count of bytes read,
 // or a stop.
-#[derive(Drop)]
+#[derive(Clone, Copy)]
 pub enum Sent {
     Code(u32, u32, usize),
     Stopped(Stop),
 }
 
 // How a text begins: the count of its mark's bytes, 0 without one, and the scheme of the text behind the mark.
-#[derive(Drop)]
+#[derive(Clone, Copy)]
 struct Front {
     mark: usize,
     scheme: Scheme,

@@ -29,7 +29,7 @@ use utf::utf8::{Sequence, Stop};
 use utf::utf32::{ByteOrder, Mark};
 
 // Which of the two conversions.
-#[derive(Drop)]
+#[derive(Clone, Copy)]
 pub enum Way {
     ToUnicode,
     FromUnicode,
@@ -37,14 +37,14 @@ pub enum Way {
 
 // Where the mark of plain UTF-32 is: still ahead; or behind, and the text has this order. With every other scheme it
 // stays ahead.
-#[derive(Drop)]
+#[derive(Clone, Copy)]
 pub enum MarkPlace {
     Ahead,
     Behind(ByteOrder),
 }
 
 // The final answer that stands from an earlier call, if there is one.
-#[derive(Drop)]
+#[derive(Clone, Copy)]
 pub enum Standing {
     Nothing,
     Stopped(Stop),
@@ -52,7 +52,7 @@ pub enum Standing {
 
 // What is kept between calls: the bytes of a sequence that is not through, at most three; the place of the mark; and
 // the answer that stands.
-#[derive(Drop)]
+#[derive(Clone, Copy)]
 pub struct Kept {
     pub bytes: Code,
     pub mark: MarkPlace,
@@ -70,7 +70,7 @@ pub const FRESH: Kept = Kept {
 };
 
 // How a call ends, by number.
-#[derive(Drop)]
+#[derive(Clone, Copy)]
 pub enum PieceEnd {
     // 0 and 50 to 53, as of a whole conversion, and 60. 0: all of the piece is read; what it left unfinished is kept.
     // 50: call again with fresh space and the unread rest of the piece. 51 to 53 stand until a fresh start.
@@ -81,7 +81,7 @@ pub enum PieceEnd {
 }
 
 // How a call ended, how many bytes of the piece it read, how many it wrote, and what it kept.
-#[derive(Drop)]
+#[derive(Clone, Copy)]
 pub struct Pieced {
     pub end: PieceEnd,
     pub read: usize,
@@ -90,7 +90,7 @@ pub struct Pieced {
 }
 
 // A run through part of a text, and where the mark is behind it.
-#[derive(Drop)]
+#[derive(Clone, Copy)]
 pub struct Ran {
     done: Converted,
     mark: MarkPlace,
@@ -751,7 +751,7 @@ fn kept_fits(way: Way, scheme: Scheme, states: &[u16], settings: Settings, kept:
 }
 
 // Whether a call goes on, or ends at once, with nothing done.
-#[derive(Drop)]
+#[derive(Clone, Copy)]
 pub enum Guarded {
     Ends(PieceEnd),
     GoesOn,

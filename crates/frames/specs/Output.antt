@@ -2,10 +2,9 @@
 -- document 01 that begins `The program reads table.ucm`. Every line ends in LF. That the program's calls put just this:
 -- `whole-output` in promises/specs/Promises.antt.
 -- Cases: proofs/OutputCases.antt
-use Rattle.std.specs.Prelude.{ℕ, ◌*◌, false, List, ◌++◌, map, length, nat_le}
+use Rattle.std.specs.Prelude.{if◌then◌else◌, ℕ, ◌*◌, false, List, ◌++◌, map, length, nat_le}
 use Rattle.std.proofs.Math.Option.{Option, none, some}
 use mathlib.Core.List.{flatten}
-use Rattle.lists.specs.Pick.{if◌then◌else◌}
 use Rattle.lists.specs.Ascii.{ascii}
 use Rattle.utf.specs.declared.scheme.Scheme.TheVariants.{Utf8}
 use Rattle.table.specs.Limits.{limits}

@@ -15,7 +15,7 @@ use table::states::TOP;
 use table::text::digit;
 
 // The outcome of putting a text.
-#[derive(Drop)]
+#[derive(Clone, Copy)]
 pub enum Room {
     // The text is written. The next one goes to this place after it.
     Put(usize),
@@ -24,7 +24,7 @@ pub enum Room {
 }
 
 // The outcome of reading a frame's line.
-#[derive(Drop)]
+#[derive(Clone, Copy)]
 pub enum Parsed {
     // So many bytes of the frame are at the front of `out`. Convert them.
     Frame(usize),
@@ -33,7 +33,7 @@ pub enum Parsed {
 }
 
 // The line so far: how many of its bytes are held, or that it has more bytes than there is room for.
-#[derive(Drop)]
+#[derive(Clone, Copy)]
 pub struct Partial {
     pub len: usize,
     pub long: bool,
@@ -49,7 +49,7 @@ pub(crate) const EMPTY: Partial = Partial {
 pub(crate) const TOO_LONG: Partial = Partial { len: 0, long: true };
 
 // One step through a piece of input.
-#[derive(Drop)]
+#[derive(Clone, Copy)]
 pub enum Taken {
     // The line ends. Report it, and go on from this place after its LF.
     Line(usize, Partial),

@@ -12,7 +12,7 @@ use table::states::Code;
 use table::valid::Record;
 
 // How far the audit's list has come: the position, codes looked at, findings listed.
-#[derive(Drop)]
+#[derive(Clone, Copy)]
 pub struct ListedSoFar {
     pub position: Code,
     pub looked: u64,
@@ -20,7 +20,7 @@ pub struct ListedSoFar {
 }
 
 // One page of the list: how the audit's call ended, how far the list has come, bytes put, and whether there is more.
-#[derive(Drop)]
+#[derive(Clone, Copy)]
 pub struct Listed {
     pub ending: Ending,
     pub reached: ListedSoFar,

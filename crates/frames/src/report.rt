@@ -14,7 +14,7 @@ use table::valid::Record;
 use utf::scheme::Scheme;
 
 // How far a call came through a piece of input: the place after the bytes it took, the next line so far, bytes put.
-#[derive(Drop)]
+#[derive(Clone, Copy)]
 pub struct Progress {
     pub at: usize,
     pub held: Partial,

@@ -5,8 +5,7 @@
 -- shift_in n at x l        l with x inserted at `at`; elements `at` to n - 1 move up and overwrite element n
 -- bump at k               the index k after something was inserted at `at`
 -- Assumes nothing.
-use Rattle.std.specs.Prelude.{ℕ, ◌+◌, ◌-◌, Bool, List, ◌∷◌, ◌++◌, leb, length, take, drop, replicate}
-use Rattle.lists.specs.Pick.{if◌then◌else◌}
+use Rattle.std.specs.Prelude.{if◌then◌else◌, ℕ, ◌+◌, ◌-◌, Bool, List, ◌∷◌, ◌++◌, leb, length, take, drop, replicate}
 
 abbrev pub fits : List ℕ → ℕ → List ℕ → Bool
 fits old at new = leb (at + length new) (length old)

@@ -1,1 +1,2 @@
 // Mathematics that is not about tables: no code.
+#![tactic(auto)]

@@ -1,8 +1,7 @@
 -- What many look-ups in a row leave in a slice of numbers: the numbers in which codes are asked for and lines are
 -- answered, one statement for either side, and the two relations that it is said of. `CodeFound` and `PointFound` of
 -- `table` are the answers themselves.
-use Rattle.std.specs.Prelude.{ℕ, ◌+◌, ◌*◌, ◌/◌, ◌%◌, ◌<◌, ◌≤◌, ◌≡◌, List, ltb, length, get_or}
-use Rattle.lists.specs.Pick.{if◌then◌else◌}
+use Rattle.std.specs.Prelude.{if◌then◌else◌, ℕ, ◌+◌, ◌*◌, ◌/◌, ◌%◌, ◌<◌, ◌≤◌, ◌≡◌, List, ltb, length, get_or}
 use Rattle.table.specs.Lookup.{CodeFound, PointFound, indicator_of}
 use Rattle.table.specs.declared.states.Code.{Code}
 use Rattle.table.specs.declared.valid.Record.{Record}

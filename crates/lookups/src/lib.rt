@@ -1,5 +1,7 @@
 // The two look-ups of `table`, many at a time, exported for the tests in tests/ and the benchmarks in bench/, which
 // link liblookups.a. No part of the library that users link (libcabi.a).
+#![tactic(auto)]
+
 ghost use Rattle.std.specs.Prelude.{◌≡◌, ◌≤◌};
 ghost use Rattle.table.specs.Lookup.{indicator_of};
 ghost use Rattle.lookups.specs.Lookups.{record_in, code_in, code_number, point_number, shorter};

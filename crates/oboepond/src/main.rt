@@ -1,5 +1,7 @@
 // The program: table.ucm and lines of frames in, the report out. It only moves bytes between the system and the
 // library.
+#![tactic(auto)]
+
 ghost use Rattle.std.specs.Prelude.{◌≡◌, ◌≤◌, length, take};
 
 use frames::lines::Partial;
@@ -11,14 +13,14 @@ use table::states::Code;
 use table::valid::Record;
 
 // The outcome of reading a whole file: its bytes, as many as there was room for, or a read that failed.
-#[derive(Drop)]
+#[derive(Clone, Copy)]
 struct Filled {
     len: usize,
     failed: bool,
 }
 
 // The state of reading: the input goes on or has ended, with the line so far, or the output failed.
-#[derive(Drop)]
+#[derive(Clone, Copy)]
 enum Reading {
     On(Partial),
     Ended(Partial),

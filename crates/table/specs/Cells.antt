@@ -1,7 +1,7 @@
 -- A cell is what a state row says of a byte (document 01, 'State rows'). A row of a table has 256 of them.
 -- The number that stands for a cell in memory is given here alone.
-use Rattle.std.specs.Prelude.{ℕ, ◌+◌, ◌-◌, Bool, leb, eqb}
-use Rattle.lists.specs.Pick.{if◌then◌else◌, ◌or◌}
+use Rattle.std.specs.Prelude.{if◌then◌else◌, ℕ, ◌+◌, ◌-◌, Bool, leb, eqb}
+use Rattle.lists.specs.Pick.{◌or◌}
 use Rattle.table.specs.declared.states.Step.{Step}
 use Rattle.table.specs.declared.states.Step.TheVariants.{Illegal, Ends, Leads}
 

@@ -4,9 +4,8 @@
 -- Contents: keys; quoted values; the value of each known key (`value_of`); a value by its case (`by_value`); a line
 -- (`header_line_of`).
 -- Cases: proofs/HeaderCases.antt
-use Rattle.std.specs.Prelude.{ℕ, ◌+◌, ◌-◌, ◌/◌, ◌<◌, List, [], ◌∷◌, Bool, true, false, length, take, drop, ltb, leb, eqb}
+use Rattle.std.specs.Prelude.{if◌then◌else◌, ℕ, ◌+◌, ◌-◌, ◌/◌, ◌<◌, List, [], ◌∷◌, Bool, true, false, length, take, drop, ltb, leb, eqb}
 use Rattle.lists.specs.Ascii.{ascii, byte}
-use Rattle.lists.specs.Pick.{if◌then◌else◌}
 use Rattle.table.specs.Codes.{packed, first_byte_unit}
 use Rattle.lists.specs.Strings.{same}
 use Rattle.lists.specs.Tests.{any_of}

@@ -1,7 +1,6 @@
 -- The keys of a header as they were read (document 01, 'Table text', Header): each one given, with its value, or not.
-use Rattle.std.specs.Prelude.{ℕ, Bool, true, false, List, [], eqb}
+use Rattle.std.specs.Prelude.{if◌then◌else◌, ℕ, Bool, true, false, List, [], eqb}
 use Rattle.std.proofs.Math.Option.{Option, none, some}
-use Rattle.lists.specs.Pick.{if◌then◌else◌}
 use Rattle.lists.specs.Options.{or_else}
 
 -- the classes that are built

@@ -1,7 +1,6 @@
 -- How many stored lines a search looks at (document 02, ticket 2). A line is looked at if its code or its second number
 -- is read; looked at twice, it counts once.
-use Rattle.std.specs.Prelude.{ℕ, zero, suc, ◌+◌, ◌*◌, ◌/◌, ◌≤◌, ◌≡◌, eqb}
-use Rattle.lists.specs.Pick.{if◌then◌else◌}
+use Rattle.std.specs.Prelude.{if◌then◌else◌, ℕ, zero, suc, ◌+◌, ◌*◌, ◌/◌, ◌≤◌, ◌≡◌, eqb}
 
 -- of n lines one is looked at and n / 2 are left; f is a bound on the turns
 unfoldable pub looks_within : ℕ → ℕ → ℕ

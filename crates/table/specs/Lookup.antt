@@ -1,8 +1,7 @@
 -- What a look-up answers: the table's line that reads a code, or the one that says what becomes of a code point
 -- (document 01, 'The two pipes').
-use Rattle.std.specs.Prelude.{ℕ, ◌+◌, ◌≡◌, true, List, map, take, eqb}
+use Rattle.std.specs.Prelude.{if◌then◌else◌, ℕ, ◌+◌, ◌≡◌, true, List, map, take, eqb}
 use Rattle.std.proofs.Math.Option.{Option, none, some}
-use Rattle.lists.specs.Pick.{if◌then◌else◌}
 use Rattle.lists.specs.Order.{In}
 use Rattle.table.specs.Limits.{Limits}
 use Rattle.table.specs.Codes.{bytes_of}

@@ -4,9 +4,9 @@
 -- Contents: the parts of an entry; entries one after the other; entries under 14 and 15; what an entry means, and a
 -- row; `initial`.
 -- Cases: proofs/HeaderCases.antt
-use Rattle.std.specs.Prelude.{ℕ, zero, suc, ◌+◌, ◌-◌, List, [], ◌∷◌, ◌++◌, Bool, true, false, length, take, drop, replicate, ltb, leb, eqb}
+use Rattle.std.specs.Prelude.{if◌then◌else◌, ℕ, zero, suc, ◌+◌, ◌-◌, List, [], ◌∷◌, ◌++◌, Bool, true, false, length, take, drop, replicate, ltb, leb, eqb}
 use Rattle.lists.specs.Ascii.{ascii, byte}
-use Rattle.lists.specs.Pick.{if◌then◌else◌, ◌or◌}
+use Rattle.lists.specs.Pick.{◌or◌}
 use Rattle.table.specs.Cells.{Cell, illegal, ends, ends_any, ends_unassigned, leads}
 use Rattle.table.specs.Text.{byte_of, skip_at, number_at}
 use Rattle.lists.specs.Strings.{begins}

@@ -1,8 +1,8 @@
 -- T1 to T9 (document 01, 'What every table keeps') and T10 (document 02, request 5), one definition each, over rows and
 -- lines alone. `Keeps` is a table that keeps them all.
-use Rattle.std.specs.Prelude.{ℕ, ◌≡◌, Bool, true, false, List, [], ◌∷◌, length, get_or, ltb, leb, eqb}
+use Rattle.std.specs.Prelude.{if◌then◌else◌, ℕ, ◌≡◌, Bool, true, false, List, [], ◌∷◌, length, get_or, ltb, leb, eqb}
 use Rattle.std.proofs.Math.Option.{Option, none, some}
-use Rattle.lists.specs.Pick.{if◌then◌else◌, ◌and◌, ◌or◌, ◌implies◌}
+use Rattle.lists.specs.Pick.{◌and◌, ◌or◌, ◌implies◌}
 use Rattle.table.specs.Limits.{Limits}
 use Rattle.table.specs.States.{Rows, end_kind, is_code, within, leads_to}
 use Rattle.table.specs.Meaning.{Line, Table, flat, steps_of, is_read, decides_point, has_code, writes_code}

@@ -1,8 +1,7 @@
 -- What state rows say of a byte string (document 01, 'State rows'): a sequence cut by the states (`cut_of`), a complete
 -- code (`end_kind`, `is_code`), and how often rows lead on (`within`, T3). Rows are known by what a row says of a byte:
 -- `step row byte`.
-use Rattle.std.specs.Prelude.{ℕ, zero, suc, ◌+◌, ◌*◌, List, [], ◌∷◌, Bool, true, false, get_or, eqb}
-use Rattle.lists.specs.Pick.{if◌then◌else◌}
+use Rattle.std.specs.Prelude.{if◌then◌else◌, ℕ, zero, suc, ◌+◌, ◌*◌, List, [], ◌∷◌, Bool, true, false, get_or, eqb}
 use Rattle.lists.specs.Tests.{is_empty, all_below}
 use Rattle.table.specs.Cells.{cell_step, cell_in}
 use Rattle.table.specs.declared.states.Step.{Step}

@@ -4,8 +4,8 @@
 -- those that only write. 3 is free, for `|4`.
 -- Contents: a stored mapping and its parts; a line as it is stored, and back; which stored mappings are of the form;
 -- the two orders; T9 on stored lines.
-use Rattle.std.specs.Prelude.{ℕ, ◌+◌, ◌-◌, ◌*◌, ◌/◌, ◌%◌, Bool, true, false, length, leb, eqb}
-use Rattle.lists.specs.Pick.{if◌then◌else◌, ◌and◌, ◌or◌}
+use Rattle.std.specs.Prelude.{if◌then◌else◌, ℕ, ◌+◌, ◌-◌, ◌*◌, ◌/◌, ◌%◌, Bool, true, false, length, leb, eqb}
+use Rattle.lists.specs.Pick.{◌and◌, ◌or◌}
 use Rattle.lists.specs.Order.{by_key}
 use Rattle.table.specs.Codes.{packed, unpacked, first_byte_unit}
 use Rattle.table.specs.Meaning.{Line}

@@ -14,7 +14,7 @@ use crate::states::{Code, ROWS, Step, TOP, step_at};
 const MARKS: usize = 64;
 
 // What comes after a position.
-#[derive(Drop)]
+#[derive(Clone, Copy)]
 pub enum Next {
     // The next complete code. Go on from it.
     Found(Code),

@@ -1,5 +1,5 @@
 // A line before CHARMAP: its key, value and comment, the conditions 11 to 15, and the header with the value in it.
-ghost use Rattle.std.specs.Prelude.{◌≡◌, true, false, map, ◌+◌, ◌-◌, ◌≤◌, ◌<◌, length, take, drop};
+ghost use Rattle.std.specs.Prelude.{if◌then◌else◌, ◌≡◌, true, false, map, ◌+◌, ◌-◌, ◌≤◌, ◌<◌, length, take, drop};
 ghost use Rattle.table.specs.Limits.{limits, needed};
 ghost use Rattle.table.specs.Cells.{cell_number};
 ghost use Rattle.lists.specs.Strings.{same};
@@ -15,7 +15,6 @@ ghost use Rattle.table.specs.declared.load.Refusal.TheVariants.{NotBuilt, OutOfR
 ghost use Rattle.table.specs.declared.load.Verdict.TheVariants.{Fine, Refuse};
 ghost use Rattle.table.specs.loops.Ranges.{Within, NumAtMost, Placed, Stands, Fits, Ranged, InLine, InRange};
 ghost use Rattle.table.specs.loops.Coded.{put_row};
-ghost use Rattle.lists.specs.Pick.{if◌then◌else◌};
 
 use crate::load::{Refusal, Verdict};
 use crate::row::put_row;
@@ -24,7 +23,7 @@ use crate::text::{Place, ends, is_charmap, skip};
 use crate::value::{Key, Value, key_of, value_of};
 
 // A line before CHARMAP, by form. The value's text is line[q..e].
-#[derive(Drop)]
+#[derive(Clone, Copy)]
 pub enum HeaderLine {
     NoForm,
     Blank,
@@ -34,7 +33,7 @@ pub enum HeaderLine {
 
 // The header so far: a number is 0, and `sub` has no bytes, while the key is absent. class: 1 SBCS, 2 MBCS; sub1: 1 +
 // the byte.
-#[derive(Drop)]
+#[derive(Clone, Copy)]
 pub struct Head {
     pub name: bool,
     pub min: u32,

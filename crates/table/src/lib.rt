@@ -1,5 +1,7 @@
 // Conversion tables: the text, the rules that every table keeps, the lent memory that holds a table, look-up from
 // either side.
+#![tactic(auto)]
+
 pub mod codes;
 pub mod header;
 pub mod load;

@@ -1,5 +1,5 @@
 // Loading: a table's text into lent memory.
-ghost use Rattle.std.specs.Prelude.{◌≡◌, not, List, [], ◌∷◌, ◌++◌, ℕ, ◌+◌, ◌-◌, ◌*◌, ◌≤◌, ◌<◌, leb, length, take, drop, replicate};
+ghost use Rattle.std.specs.Prelude.{if◌then◌else◌, ◌≡◌, not, List, [], ◌∷◌, ◌++◌, ℕ, ◌+◌, ◌-◌, ◌*◌, ◌≤◌, ◌<◌, leb, length, take, drop, replicate};
 ghost use Rattle.lists.specs.Order.{insert};
 ghost use Rattle.table.specs.Limits.{limits, needed};
 ghost use Rattle.table.specs.Cells.{Cell};
@@ -24,7 +24,6 @@ ghost use Rattle.table.specs.declared.load.Refusal.TheVariants.{NoScalar, NoSuch
 ghost use Rattle.table.specs.declared.load.Refusal.TheVariants.{BytesTaken, PointTaken, TooMany};
 ghost use Rattle.table.specs.declared.load.Verdict.TheVariants.{Fine, Refuse};
 ghost use Rattle.table.specs.declared.load.Phase.TheVariants.{Header, Mappings, Ended};
-ghost use Rattle.lists.specs.Pick.{if◌then◌else◌};
 
 use crate::header::{Head, judge_key, read_line, take_value};
 use crate::mapping::{Mapped, read_last, read_mapping};
@@ -54,7 +53,7 @@ const START: Progress = Progress {
 };
 
 // Why a text is refused, by number, and what its author does next.
-#[derive(Drop)]
+#[derive(Clone, Copy)]
 pub enum Refusal {
     // 1: a lent slice is too short. Lend 4,096 numbers for the states and 2,048 in each other slice.
     MemoryTooSmall,
@@ -96,14 +95,14 @@ pub enum Refusal {
 }
 
 // The verdict of the conditions at a line.
-#[derive(Drop)]
+#[derive(Clone, Copy)]
 pub enum Verdict {
     Fine,
     Refuse(Refusal),
 }
 
 // Which part of the text is being read.
-#[derive(Drop)]
+#[derive(Clone, Copy)]
 pub enum Phase {
     Header,
     Mappings,
@@ -111,7 +110,7 @@ pub enum Phase {
 }
 
 // What loading answers.
-#[derive(Drop)]
+#[derive(Clone, Copy)]
 pub enum Answer {
     // The slices hold the table. Keep them and the record as they are, and hand them to every call.
     Accepted,
@@ -120,7 +119,7 @@ pub enum Answer {
 }
 
 // The answer, the line that is refused (0 where there is none), and the record, which is zeros for a refused text.
-#[derive(Drop)]
+#[derive(Clone, Copy)]
 pub struct Loaded {
     pub answer: Answer,
     pub line: usize,
@@ -129,7 +128,7 @@ pub struct Loaded {
 
 // The progress between two lines: the part being read, the header so far (its rows are in the lent states), and the
 // count of mappings.
-#[derive(Drop)]
+#[derive(Clone, Copy)]
 pub struct Progress {
     pub phase: Phase,
     pub head: Head,
@@ -137,7 +136,7 @@ pub struct Progress {
 }
 
 // A line's outcome: the reading goes on, or the text is refused.
-#[derive(Drop)]
+#[derive(Clone, Copy)]
 pub enum LineOutcome {
     On(Progress),
     Stop(Refusal),

@@ -9,7 +9,7 @@ use crate::store::{EXTRA, FAR, RANK};
 use crate::valid::Record;
 
 // How a line is used, by its indicator: `|0`, `|1`, `|2`, `|3`.
-#[derive(Drop)]
+#[derive(Clone, Copy)]
 pub enum Use {
     RoundTrip,
     Fallback,
@@ -18,7 +18,7 @@ pub enum Use {
 }
 
 // A mapping line as it was found: its code point, its code, and how it is used.
-#[derive(Drop)]
+#[derive(Clone, Copy)]
 pub struct Mapping {
     pub point: u32,
     pub code: Code,
@@ -26,7 +26,7 @@ pub struct Mapping {
 }
 
 // What a look-up finds.
-#[derive(Drop)]
+#[derive(Clone, Copy)]
 pub enum Found {
     // The stored line. Read its code point or its code, by `used`.
     Line(Mapping),

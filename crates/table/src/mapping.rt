@@ -9,7 +9,7 @@ use crate::text::{ByteRun, Num, bytes_run, ends, is_charmap, join, plus, skip, u
 
 // A line after CHARMAP, by form. `Line`: a mapping, with its code point, its code (the first four bytes), the count of
 // bytes and the indicator. `Reserved`: well-formed, not built.
-#[derive(Drop)]
+#[derive(Clone, Copy)]
 pub enum Mapped {
     NoForm,
     Reserved,

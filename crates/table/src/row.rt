@@ -15,7 +15,7 @@ use crate::text::{Num, digit, skip, word};
 
 // One entry of a state row: bytes lo to hi, the next row (256 where none is named) and how it ends
 // (0 no point; after a point: 1 no letter, 2 `p`, 3 `u`, 4 `i`, 5 `s`).
-#[derive(Drop)]
+#[derive(Clone, Copy)]
 pub struct Entry {
     pub lo: u32,
     pub hi: u32,
@@ -24,7 +24,7 @@ pub struct Entry {
 }
 
 // An entry with a comma after it, the last entry, or text of no such form.
-#[derive(Drop)]
+#[derive(Clone, Copy)]
 pub enum ReadEntry {
     More(Entry, usize),
     Last(Entry),
@@ -32,7 +32,7 @@ pub enum ReadEntry {
 }
 
 // The entries of a row's text: whether all have the form, whether 14 is given for one, whether 15 is.
-#[derive(Drop)]
+#[derive(Clone, Copy)]
 pub struct Forms {
     pub well: bool,
     pub later: bool,

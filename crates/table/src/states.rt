@@ -1,6 +1,6 @@
 // State rows in a lent slice of 16-bit numbers: the step of a byte, the cutting of an input into codes, and the test of
 // all rows.
-ghost use Rattle.std.specs.Prelude.{◌≡◌, true, false, ℕ, ◌+◌, ◌-◌, ◌*◌, ◌<◌, ◌≤◌, ltb, length, get_or, take, drop};
+ghost use Rattle.std.specs.Prelude.{if◌then◌else◌, ◌≡◌, true, false, ℕ, ◌+◌, ◌-◌, ◌*◌, ◌<◌, ◌≤◌, ltb, length, get_or, take, drop};
 ghost use Rattle.table.specs.Limits.{limits, needed};
 ghost use Rattle.table.specs.States.{step_at, broken_length, cut_from, cut_of, end_kind};
 ghost use Rattle.table.specs.Codes.{unpacked, bytes_of};
@@ -8,7 +8,7 @@ ghost use Rattle.table.specs.Rules.{t3};
 ghost use Rattle.lists.specs.Tests.{all_of, zeros};
 ghost use Rattle.table.specs.Valid.{state_ok, states_ok};
 ghost use Rattle.table.specs.loops.LeadMarks.{lead_marks, no_marks, marked, marked_within};
-ghost use Rattle.lists.specs.Pick.{if◌then◌else◌, ◌and◌};
+ghost use Rattle.lists.specs.Pick.{◌and◌};
 
 // The cells of a row.
 const ROW: usize = 256;
@@ -27,7 +27,7 @@ const MARKS: usize = ROWS * ROWS;
 
 // The step of a byte in a row. A code ends as 1 (assigned, up to U+FFFF), 2 (`p`: any code point) or 3 (`u`:
 // unassigned).
-#[derive(Drop)]
+#[derive(Clone, Copy)]
 pub enum Step {
     Illegal,
     Ends(u16),
@@ -35,7 +35,7 @@ pub enum Step {
 }
 
 // Why a sequence is no complete code.
-#[derive(Drop)]
+#[derive(Clone, Copy)]
 pub enum CutStop {
     // The input ends inside the sequence. Put more bytes after it and try again.
     CutShort,
@@ -45,7 +45,7 @@ pub enum CutStop {
 }
 
 // The sequence at the front of an input: a complete code, with its length and how it ends, or none.
-#[derive(Drop)]
+#[derive(Clone, Copy)]
 pub enum Cut {
     Complete(usize, u16),
     Stopped(CutStop),
@@ -56,7 +56,7 @@ pub const TOP: u32 = 16777216;
 
 // A byte string of at most four bytes: the first is the highest byte of `bits`, unused bits are zeros. As a position,
 // no bytes means the beginning.
-#[derive(Drop)]
+#[derive(Clone, Copy)]
 pub struct Code {
     pub bits: u32,
     pub len: u32,
@@ -182,7 +182,7 @@ pub fn end_kind(states: &[u16], row: u16, code: Code) -> u16
 
 // Whether the cells of the rows are of the form and keep T2; if so, `marks` says which row leads on to which, else it
 // marks none.
-#[derive(Drop)]
+#[derive(Clone, Copy)]
 struct Marks {
     ok: bool,
     marks: [bool; MARKS],

@@ -1,6 +1,6 @@
 // Mappings in lent slices of 32-bit numbers, sorted for search from either side: `codes` and `infos` hold the stored
 // mappings rising by code, `order` their indices rising by code point.
-ghost use Rattle.std.specs.Prelude.{◌≡◌, true, List, ◌++◌, map, ℕ, ◌+◌, ◌-◌, ◌≤◌, ◌<◌, ltb, length, take, drop, get_or};
+ghost use Rattle.std.specs.Prelude.{if◌then◌else◌, ◌≡◌, true, List, ◌++◌, map, ℕ, ◌+◌, ◌-◌, ◌≤◌, ◌<◌, ltb, length, take, drop, get_or};
 ghost use Rattle.lists.specs.Order.{All, Rising, insert};
 ghost use Rattle.table.specs.Stored.{mk, bits_of, info_of, extra_in, order_key_in, less, point_less};
 ghost use Rattle.table.specs.Limits.{limits};
@@ -9,7 +9,7 @@ ghost use Rattle.table.specs.loops.Search.{reads_code, writes_point, is_at, hold
 ghost use Rattle.table.specs.loops.Search.{picked, read_taken, write_taken, Ready, Kept};
 ghost use Rattle.table.specs.loops.Search.{stored_key, far, GapAt, CodeGap, PointGap, GapTells, HasPoint};
 ghost use Rattle.table.specs.loops.Search.{WindowOf, after_look, point_seen};
-ghost use Rattle.lists.specs.Pick.{if◌then◌else◌, ◌and◌};
+ghost use Rattle.lists.specs.Pick.{◌and◌};
 ghost use Rattle.lists.specs.Place.{shift_in, bump};
 ghost use Rattle.table.specs.Valid.{store_ok};
 ghost use Rattle.lists.specs.Tests.{zeros};
@@ -90,7 +90,7 @@ fn stored_key(c: u32, i: u32) -> u64
 // place is left, and its gap; FAR if it is behind the last line. The first look leaves the largest power of two of
 // places, each look after it half of them, so at most `looks_for n` of n lines are looked at; the line that the search
 // ends at is among them.
-#[derive(Drop)]
+#[derive(Clone, Copy)]
 pub(crate) struct Spot {
     pub at: usize,
     pub gap: u64,

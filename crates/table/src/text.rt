@@ -10,14 +10,14 @@ ghost use Rattle.table.specs.loops.Ranges.{Within, NumAtMost, Ran};
 use crate::states::TOP;
 
 // A number and the place after it, or `Bad` where no number stands.
-#[derive(Drop)]
+#[derive(Clone, Copy)]
 pub enum Num {
     Val(u32, usize),
     Bad,
 }
 
 // A place in a line, or `No` where there is none.
-#[derive(Drop)]
+#[derive(Clone, Copy)]
 pub enum Place {
     At(usize),
     No,
@@ -25,14 +25,14 @@ pub enum Place {
 
 // A run of bytes `\xhh`: the code of the first four bytes, the count of bytes, whether a `+` joined two, and the place
 // after the run; or `Wrong`.
-#[derive(Drop)]
+#[derive(Clone, Copy)]
 pub enum ByteRun {
     Bytes(u32, usize, bool, usize),
     Wrong,
 }
 
 // Where a line stops, and where the next starts.
-#[derive(Drop)]
+#[derive(Clone, Copy)]
 pub struct LineEnd {
     pub stop: usize,
     pub next: usize,

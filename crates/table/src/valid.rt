@@ -22,7 +22,7 @@ use crate::store::{EXTRA, RANK};
 pub(crate) const MAPPINGS: usize = 2048;
 
 // The record that an accepted text gives beside the memory. `subchar1` is 0 if the table has none, else 1 + the byte.
-#[derive(Drop)]
+#[derive(Clone, Copy)]
 pub struct Record {
     pub rows: u32,
     pub mappings: u32,

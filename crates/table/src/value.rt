@@ -11,13 +11,13 @@ use crate::states::TOP;
 use crate::text::{ByteRun, Num, bytes_run, skip};
 
 // The place of a quoted value between its quotes, or `Unquoted`.
-#[derive(Drop)]
+#[derive(Clone, Copy)]
 pub enum Quoted {
     Inside(usize, usize),
     Unquoted,
 }
 
-#[derive(Drop)]
+#[derive(Clone, Copy)]
 pub enum Key {
     CodeSetName,
     CurMin,
@@ -32,7 +32,7 @@ pub enum Key {
 
 // The value of a key. `Unfit`: malformed; `Unbuilt`: well-formed, not built; `Any`: the key is ignored.
 // `Row`: the word that opens it (0 none, 1 `initial`, 2 `surrogates`), whether 14 is given for an entry, whether 15 is.
-#[derive(Drop)]
+#[derive(Clone, Copy)]
 pub enum Value {
     Unfit,
     Any,

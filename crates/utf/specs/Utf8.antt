@@ -4,8 +4,8 @@
 -- (`encode_of`), and put into an output slice. Which sequences these are, row by row of RFC 3629's table:
 -- WellFormed.antt.
 -- Cases: proofs/Vectors.antt
-use Rattle.std.specs.Prelude.{ℕ, zero, suc, ◌+◌, ◌-◌, ◌*◌, ◌%◌, ◌/◌, ◌^◌, ◌≤◌, ◌<◌, List, [], ◌∷◌, Bool, false, ltb, eqb, length}
-use Rattle.lists.specs.Pick.{if◌then◌else◌, ◌or◌}
+use Rattle.std.specs.Prelude.{if◌then◌else◌, ℕ, zero, suc, ◌+◌, ◌-◌, ◌*◌, ◌%◌, ◌/◌, ◌^◌, ◌≤◌, ◌<◌, List, [], ◌∷◌, Bool, false, ltb, eqb, length}
+use Rattle.lists.specs.Pick.{◌or◌}
 use Rattle.lists.specs.Between.{between}
 use Rattle.lists.specs.Place.{fits, placed}
 use Rattle.utf.specs.declared.utf8.Stop.{Stop}

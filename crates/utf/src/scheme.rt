@@ -8,7 +8,7 @@ use crate::utf32::ByteOrder;
 use crate::{utf8, utf32};
 
 // The schemes of the Unicode side.
-#[derive(Drop)]
+#[derive(Clone, Copy)]
 pub enum Scheme {
     Utf8,
     // The highest byte first. U+FEFF at the front is text.

@@ -1,8 +1,7 @@
 // UTF-32 (source document 002): one sequence of four bytes is decoded, one scalar value is encoded, in either byte
 // order.
-ghost use Rattle.std.specs.Prelude.{◌≡◌, [], ◌∷◌, ◌+◌, ◌*◌, ◌/◌, ◌%◌, ◌^◌, ◌≤◌, length};
+ghost use Rattle.std.specs.Prelude.{if◌then◌else◌, ◌≡◌, [], ◌∷◌, ◌+◌, ◌*◌, ◌/◌, ◌%◌, ◌^◌, ◌≤◌, length};
 ghost use Rattle.std.proofs.lemmas.List.Edits.{sets};
-ghost use Rattle.lists.specs.Pick.{if◌then◌else◌};
 ghost use Rattle.lists.specs.Place.{fits, placed};
 ghost use Rattle.utf.specs.Utf8.{encode_answer, encode_into};
 ghost use Rattle.utf.specs.Utf32.{number_of, word_in, encode_in, decode_in, mark_in, is_mark, mark_at};
@@ -11,14 +10,14 @@ ghost use Rattle.utf.specs.declared.utf32.ByteOrder.TheVariants as order;
 use crate::utf8::{Put, Sequence, Stop, is_scalar};
 
 // The order of a number's bytes: the highest first, or the lowest first.
-#[derive(Drop)]
+#[derive(Clone, Copy)]
 pub enum ByteOrder {
     Big,
     Little,
 }
 
 // How a text of plain UTF-32 begins: with a byte order mark, or with none.
-#[derive(Drop)]
+#[derive(Clone, Copy)]
 pub enum Mark {
     // U+FEFF in this byte order, four bytes. Read the text behind it in that order.
     Of(ByteOrder),

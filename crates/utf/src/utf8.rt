@@ -6,7 +6,7 @@ ghost use Rattle.utf.specs.declared.utf8.Lead.TheVariants.{Of};
 ghost use Rattle.utf.specs.declared.utf8.Sequence.TheVariants.{Scalar};
 
 // Why a sequence gives no scalar value, by number.
-#[derive(Drop)]
+#[derive(Clone, Copy)]
 pub enum Stop {
     // 51: the input ends inside the sequence. Put the next bytes after it and call again; at the input's end, give up.
     CutShort,
@@ -18,14 +18,14 @@ pub enum Stop {
 }
 
 // The outcome of one sequence: a scalar value and the count of its bytes, or a stop.
-#[derive(Drop)]
+#[derive(Clone, Copy)]
 pub enum Sequence {
     Scalar(u32, usize),
     Stopped(Stop),
 }
 
 // The meaning of a lead byte: the count of trail bytes, the bounds of the first of them, and the lead's own bits.
-#[derive(Drop)]
+#[derive(Clone, Copy)]
 pub enum Lead {
     Of {
         trails: usize,
@@ -37,7 +37,7 @@ pub enum Lead {
 }
 
 // The outcome of encoding.
-#[derive(Drop)]
+#[derive(Clone, Copy)]
 pub enum Put {
     // So many bytes are written. Go on after them.
     Bytes(usize),

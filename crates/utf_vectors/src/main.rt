@@ -4,6 +4,8 @@
 // encoding the value gives in six bytes 2a from place 1 on.
 // Then a line for each code point, place and room: what encoding it there gives ('none': no scalar value), and the six
 // bytes.
+#![tactic(auto)]
+
 ghost use Rattle.std.specs.Prelude.{◌≡◌, ◌≤◌, length};
 
 use utf::utf8;

@@ -1,4 +1,5 @@
 -- Only plain UTF-32 has a mark.
+use Rattle.std.specs.Prelude.{if◌then◌else◌}
 use mathlib.Core.Path.{◌≡◌, sym, subst}
 use mathlib.Core.Bool.{Bool, true}
 use mathlib.Core.List.{List, []}
@@ -7,7 +8,6 @@ use native.Mathlib.Omega.{arith}
 use borrow.Author.Tests.{le-leb}
 use borrow.Author.Rules.{rules}
 use lib.ListN.{length}
-use Rattle.lists.specs.Pick.{if◌then◌else◌}
 use Rattle.lists.specs.Place.{fits, placed}
 use Rattle.lists.proofs.Cases.{pick_yes}
 use Rattle.utf.specs.declared.scheme.Scheme.{Scheme}

@@ -1,8 +1,7 @@
 -- What the inner functions of a conversion in pieces speak of: a run with the place of the mark behind it, the scheme
 -- behind the mark, and calls that no answer stands before.
-use Rattle.std.specs.Prelude.{ℕ, ◌≤◌, List, ◌≡◌, Bool, true, false, eqb}
+use Rattle.std.specs.Prelude.{if◌then◌else◌, ℕ, ◌≤◌, List, ◌≡◌, Bool, true, false, eqb}
 use Rattle.std.proofs.Math.Option.{none}
-use Rattle.lists.specs.Pick.{if◌then◌else◌}
 use Rattle.utf.specs.Utf32.{mark_at}
 use Rattle.utf.specs.Scheme.{ordered_by}
 use Rattle.utf.specs.declared.utf8.Stop.TheVariants as stopped

@@ -1,8 +1,7 @@
 -- What the laws of conversions speak of on the way to the promises: an output that did not fill up, code points spelt
 -- out, the round trip of a code by runs and by the terms of the contracts, a conversion that skips, split at an illegal
 -- sequence.
-use Rattle.std.specs.Prelude.{ℕ, ◌+◌, ◌-◌, ◌≡◌, List, [], ◌∷◌, ◌++◌, Bool, leb, length, drop}
-use Rattle.lists.specs.Pick.{if◌then◌else◌}
+use Rattle.std.specs.Prelude.{if◌then◌else◌, ℕ, ◌+◌, ◌-◌, ◌≡◌, List, [], ◌∷◌, ◌++◌, Bool, leb, length, drop}
 use Rattle.utf.specs.Scheme.{Side}
 use Rattle.utf.specs.declared.scheme.Scheme.{Scheme}
 use Rattle.table.specs.Limits.{limits}

@@ -1,8 +1,7 @@
 -- What only inner functions and laws of the program's output speak of: lengths of texts, entries as numbers, lines
 -- found piece by piece, and the claim on the audit's pages alone.
-use Rattle.std.specs.Prelude.{◌≡◌, ℕ, ◌*◌, ◌≤◌, false, List, [], ◌∷◌, ◌++◌, length, ◌==◌, nat_eq}
+use Rattle.std.specs.Prelude.{if◌then◌else◌, ◌≡◌, ℕ, ◌*◌, ◌≤◌, false, List, [], ◌∷◌, ◌++◌, length, ◌==◌, nat_eq}
 use Rattle.lists.specs.Ascii.{byte}
-use Rattle.lists.specs.Pick.{if◌then◌else◌}
 use Rattle.lists.specs.Order.{All}
 use Rattle.table.specs.Limits.{limits}
 use Rattle.table.specs.Codes.{bytes_of}

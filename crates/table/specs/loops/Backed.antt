@@ -1,7 +1,7 @@
 -- T10 by neighbours of the first order: the lines of one code stand together, those that read it first, so a line that
 -- only writes stands behind a line of its own code. That this is T10 is `backed-t10` of proofs/Neighbours.antt.
-use Rattle.std.specs.Prelude.{Bool, true, false, List, [], ◌∷◌, eqb}
-use Rattle.lists.specs.Pick.{if◌then◌else◌, ◌and◌, ◌implies◌}
+use Rattle.std.specs.Prelude.{if◌then◌else◌, Bool, true, false, List, [], ◌∷◌, eqb}
+use Rattle.lists.specs.Pick.{◌and◌, ◌implies◌}
 use Rattle.lists.specs.Order.{rises}
 use Rattle.table.specs.Stored.{Stored, rank_in, extra_in, read_next}
 

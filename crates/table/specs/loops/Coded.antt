@@ -1,8 +1,7 @@
 -- What the readers find, as the code holds it: a run of bytes and a mapping line packed into numbers, a row's numbers
 -- among the states, and a text cut at its first line. Only contracts of inner functions speak of it.
-use Rattle.std.specs.Prelude.{ℕ, ◌+◌, ◌*◌, List, [], ◌∷◌, ◌++◌, length, take, drop, eqb}
+use Rattle.std.specs.Prelude.{if◌then◌else◌, ℕ, ◌+◌, ◌*◌, List, [], ◌∷◌, ◌++◌, length, take, drop, eqb}
 use Rattle.lists.specs.Ascii.{byte}
-use Rattle.lists.specs.Pick.{if◌then◌else◌}
 use Rattle.table.specs.Codes.{packed}
 use Rattle.table.specs.Text.{ByteSeries, series, broken, cr_before}
 use Rattle.table.specs.Mapping.{BodyLine, no_form, reserved, blank, ending, mapping}

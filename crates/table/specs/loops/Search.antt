@@ -1,7 +1,7 @@
 -- Looking up and inserting, over stored mappings.
-use Rattle.std.specs.Prelude.{ℕ, ◌+◌, ◌-◌, ◌*◌, ◌^◌, ◌<◌, ◌≤◌, Bool, false, ◌≡◌, List, map, ltb, eqb, length, take, get_or}
+use Rattle.std.specs.Prelude.{if◌then◌else◌, ℕ, ◌+◌, ◌-◌, ◌*◌, ◌^◌, ◌<◌, ◌≤◌, Bool, false, ◌≡◌, List, map, ltb, eqb, length, take, get_or}
 use Rattle.std.proofs.Math.Option.{none, some}
-use Rattle.lists.specs.Pick.{if◌then◌else◌, ◌and◌}
+use Rattle.lists.specs.Pick.{◌and◌}
 use Rattle.lists.specs.Order.{All, Rising, prefix_length, first_of, Pairs}
 use Rattle.table.specs.Stored.{Stored, mk, point_in, extra_in, stored_is_read, stored_decides}
 use Rattle.table.specs.Stored.{less, point_less, read_clash}
