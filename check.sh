@@ -1,7 +1,7 @@
 #!/usr/bin/env bash
-# All tests: the layout of the sources, every proof from nothing, every must-fail edit, every program, the C programs,
-# the Rust crate, the tests from outside. Each part's time is printed. The last line is `N passed, M failed`;
-# docs/TESTING.md says what is counted.
+# All tests: every proof, the layout of the sources, every must-fail edit, every program, the C programs, the Rust crate,
+# the tests from outside. Each part's time is printed. The last line is `N passed, M failed`; docs/TESTING.md says what is
+# counted.
 set -u
 cd "$(dirname "$0")" || exit 2
 log=$(mktemp)
@@ -45,10 +45,22 @@ counted() {
     run "$1" counted "${@:2}"
 }
 
-part "layout of the sources" rt fmt --check
-counted "proofs, must-fail edits, programs" rt ci
-part "static library" rt staticlib cabi
-part "static library of the look-ups alone" rt staticlib lookups
+# gate: rt's own gate. It passes over a must-fail edit that no longer fits its text, and only counts it: here that fails.
+gate() {
+    local said status
+    said=$(mktemp)
+    rt ci 2>&1 | tee "$said"
+    status=${PIPESTATUS[0]}
+    if [ "$status" -eq 0 ] && ! grep '^rt: ok' "$said" | grep -qvE ', [0-9]+ bad'; then
+        echo "check.sh: a must-fail edit is bad, or rt ci did not say how many are"
+        status=1
+    fi
+    rm -f "$said"
+    return "$status"
+}
+
+counted "proofs, layout, must-fail edits, programs" gate
+part "program and static libraries" tools/build.sh
 counted "C programs" bash tests/c/run.sh
 counted "Rust crate" bash bindings/rust/run.sh
 part "benchmarks compile" cargo build --release --offline --quiet --manifest-path bench/Cargo.toml

@@ -2,7 +2,6 @@
 -- byte "c"   one byte       ascii "text"   its bytes
 use Rattle.std.specs.Prelude.{ℕ, List, [], ◌∷◌}
 use Prim.Native.String.{String}
-use Prim.Native.String
 use Prim.Native.Char.{Char, code}
 
 abbrev pub byte : Char → ℕ

@@ -29,9 +29,6 @@ use Rattle.table.proofs.Packing.{length-unpacked}
 use Rattle.table.proofs.StoredLine.{ok-rank}
 use Rattle.lists.proofs.Conjunctions.{and-shift}
 use Rattle.lists.specs.Strings.{same}
-use Rattle.lists.specs.Tests.{all_of, any_of}
-use Rattle.lists.proofs.Tests.{any_of⇒In, In⇒any_of}
-use Rattle.table.specs.loops.Search.{Apart, AllApart, Kept}
 
 -- the rules of a stored line by its numbers
 module _ (e : Stored) where

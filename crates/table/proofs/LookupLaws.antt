@@ -15,7 +15,7 @@ use Rattle.lists.proofs.Order.{All-In⁻, In-map⁻}
 use Rattle.table.specs.Limits.{Limits, needed}
 use Rattle.table.specs.States.{step_at}
 use Rattle.table.specs.Codes.{packed, unpacked, code_of, bytes_of, AllByte}
-use Rattle.table.specs.Meaning.{Line, reader, writer}
+use Rattle.table.specs.Meaning.{reader, writer}
 use Rattle.table.specs.Stored.{padded}
 use Rattle.table.specs.Slices.{Slices}
 use Rattle.table.specs.Memory.{stored_list, lines_in, table_in}

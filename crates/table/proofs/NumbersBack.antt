@@ -16,7 +16,7 @@ use Rattle.table.specs.Limits.{Limits, needed}
 use Rattle.table.specs.Cells.{Cell, cell_number, cell_in}
 use Rattle.table.specs.States.{step_at}
 use Rattle.table.specs.Meaning.{flat, steps_on}
-use Rattle.table.specs.Memory.{stored_list, numbers_of, sub1_of, sub1_in, pieces}
+use Rattle.table.specs.Memory.{numbers_of, sub1_of, sub1_in, pieces}
 use Rattle.table.specs.Valid.{state_ok, states_ok}
 use Rattle.table.proofs.Depth.{states_ok⇒StatesKept}
 use Rattle.table.proofs.RowLaws.{map-cell_number-cell_in, steps-filled}

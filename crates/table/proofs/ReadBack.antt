@@ -18,7 +18,6 @@ use Rattle.lists.specs.Pick.{pick}
 use Rattle.lists.specs.Order.{All, In}
 use Rattle.lists.specs.Options.{is_some}
 use Rattle.lists.specs.Strings.{same}
-use Rattle.lists.specs.Tests.{any_of}
 use Rattle.lists.proofs.Laws.{clash, and_yes, and_left, and_right}
 use Rattle.lists.proofs.Chains.{implies-right, implies-yes}
 use Rattle.lists.proofs.Choice.{⇔⇒≡}

@@ -13,7 +13,7 @@ use Rattle.lists.proofs.Laws.{and_yes, and_left, and_right}
 use Rattle.lists.proofs.Choice.{pick-false-false}
 use Rattle.table.specs.Cells.{Cell, cell_step, cell_number, cell_in, known}
 use Rattle.table.specs.States.{Rows, step_at, broken_length, cut_from, end_kind, leads_to}
-use Rattle.lists.specs.Tests.{is_empty, all_of, some_below}
+use Rattle.lists.specs.Tests.{is_empty, all_of}
 use Rattle.table.specs.loops.LeadMarks.{leads_on}
 use Rattle.table.specs.Illegal.{all_lead, reached}
 use Rattle.table.specs.Meaning.{flat, steps_on}

@@ -11,7 +11,7 @@ use mathlib.Core.List.{List, map}
 use Prim.Native.Nat.{ℕ, ◌*◌, ◌<◌}
 use lib.ListN.{length, take, length-map}
 use Rattle.lists.specs.Order.{All, In}
-use Rattle.lists.proofs.Order.{All-In⁻, In-map⁺, In-map⁻, In-sort⁻, In-sort⁺, length-sort, sort-Rising}
+use Rattle.lists.proofs.Order.{All-In⁻, In-map⁺, In-map⁻, In-sort⁻, In-sort⁺, length-sort}
 use Rattle.table.specs.Limits.{Limits, needed}
 use Rattle.table.specs.Cells.{Cell}
 use Rattle.table.specs.Codes.{code_of}
@@ -35,9 +35,7 @@ use Rattle.table.proofs.ReadForm.{held-proper, held_keeps, held-form}
 use Rattle.table.proofs.FormTested.{flat-taken, sub-length, form-tested}
 use Rattle.table.specs.Forms.{FormOf, SameTable, SameMemory}
 use Rattle.lists.proofs.Nth.{In-map-⊆}
-use Rattle.lists.specs.Tests.{all_of, zeros}
 use Rattle.lists.specs.Place.{filled}
-use Rattle.table.specs.loops.Search.{AllApart, Kept}
 
 -- what passes is the form of the table that the definitions read from the memory
 module _ (lim : Limits) (rec : Record) (m : Slices) (ok : valid lim rec m ≡ true)

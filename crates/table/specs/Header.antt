@@ -4,7 +4,7 @@
 -- Contents: keys; quoted values; the value of each known key (`value_of`); a value by its case (`by_value`); a line
 -- (`header_line_of`).
 -- Cases: proofs/HeaderCases.antt
-use Rattle.std.specs.Prelude.{if◌then◌else◌, ℕ, ◌+◌, ◌-◌, ◌/◌, ◌<◌, List, [], ◌∷◌, Bool, true, false, length, take, drop, ltb, leb, eqb}
+use Rattle.std.specs.Prelude.{if◌then◌else◌, ℕ, ◌+◌, ◌-◌, ◌/◌, List, [], ◌∷◌, Bool, true, false, length, take, drop, ltb, leb, eqb}
 use Rattle.lists.specs.Ascii.{ascii, byte}
 use Rattle.table.specs.Codes.{packed, first_byte_unit}
 use Rattle.lists.specs.Strings.{same}

@@ -2,7 +2,7 @@
 -- indicator. It knows no number and nothing that came before. Which byte strings are mapping lines, Grammar.antt says;
 -- this reader need not be believed.
 -- Cases: proofs/MappingCases.antt
-use Rattle.std.specs.Prelude.{if◌then◌else◌, ℕ, zero, suc, ◌+◌, ◌-◌, ◌<◌, List, Bool, false, length, drop, ltb, leb, eqb}
+use Rattle.std.specs.Prelude.{if◌then◌else◌, ℕ, zero, suc, ◌+◌, ◌-◌, List, Bool, false, length, drop, ltb, leb, eqb}
 use Rattle.lists.specs.Ascii.{ascii, byte}
 use Rattle.lists.specs.Pick.{◌and◌, ◌or◌}
 use Rattle.table.specs.Text.{ByteSeries, series, broken, byte_of, skip_at, ends_at, unicode_at, plus_at, join_at}

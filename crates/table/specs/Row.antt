@@ -4,7 +4,7 @@
 -- Contents: the parts of an entry; entries one after the other; entries under 14 and 15; what an entry means, and a
 -- row; `initial`.
 -- Cases: proofs/HeaderCases.antt
-use Rattle.std.specs.Prelude.{if◌then◌else◌, ℕ, zero, suc, ◌+◌, ◌-◌, List, [], ◌∷◌, ◌++◌, Bool, true, false, length, take, drop, replicate, ltb, leb, eqb}
+use Rattle.std.specs.Prelude.{if◌then◌else◌, ℕ, zero, suc, ◌+◌, List, [], ◌∷◌, Bool, true, false, length, drop, replicate, ltb, leb, eqb}
 use Rattle.lists.specs.Ascii.{ascii, byte}
 use Rattle.lists.specs.Pick.{◌or◌}
 use Rattle.table.specs.Cells.{Cell, illegal, ends, ends_any, ends_unassigned, leads}

@@ -17,7 +17,7 @@ use Rattle.lists.proofs.Between.{between-yes⁺, between-yes⁻}
 use Rattle.utf.specs.Utf8.{lead_mark, lead_of, trails_of, after_lead, decode_one}
 use Rattle.utf.specs.WellFormed.{Range, from, rows, matches, any_row, well_formed, value_from, sequence_value, StartsWith, Begins}
 use Rattle.utf.specs.declared.utf8.Lead.{Lead}
-use Rattle.utf.specs.declared.utf8.Lead.TheVariants.{Of, Illegal}
+use Rattle.utf.specs.declared.utf8.Lead.TheVariants.{Of}
 use Rattle.utf.specs.declared.utf8.Sequence.{Sequence}
 use Rattle.utf.specs.declared.utf8.Sequence.TheVariants.{Scalar, Stopped}
 use Rattle.utf.specs.declared.utf8.Stop.TheVariants as stop

@@ -1,0 +1,59 @@
+use native.Mathlib.Omega.{arith}
+use Rattle.table.specs.loops.Ranges.{InRange}
+use Rattle.table.proofs.KeyLaws.{keep_in, kept-as}
+use Rattle.table.proofs.header.keep_value.Goals as goal
+
+pub overflow_add-g : goal.overflow_add-g
+unfolding InRange
+overflow_add-g c =
+    let h = rw c.in-Sub1.is at c.requires.1 in omega arith
+
+pub returns-in-Unfit : goal.returns-in-Unfit
+unfolding keep_in
+returns-in-Unfit c =
+    kept-as c.args.h c.args.v c.requires.1 c.requires.2 _ (rw c.in-Unfit.is)
+
+pub returns-in-Any : goal.returns-in-Any
+unfolding keep_in
+returns-in-Any c =
+    kept-as c.args.h c.args.v c.requires.1 c.requires.2 _ (rw c.in-Any.is)
+
+pub returns-in-Unbuilt : goal.returns-in-Unbuilt
+unfolding keep_in
+returns-in-Unbuilt c =
+    kept-as c.args.h c.args.v c.requires.1 c.requires.2 _ (rw c.in-Unbuilt.is)
+
+pub returns-in-Name : goal.returns-in-Name
+unfolding keep_in
+returns-in-Name c =
+    kept-as c.args.h c.args.v c.requires.1 c.requires.2 _ (rw c.in-Name.is)
+
+pub returns-in-Min : goal.returns-in-Min
+unfolding keep_in
+returns-in-Min c =
+    kept-as c.args.h c.args.v c.requires.1 c.requires.2 _ (rw c.in-Min.is)
+
+pub returns-in-Max : goal.returns-in-Max
+unfolding keep_in
+returns-in-Max c =
+    kept-as c.args.h c.args.v c.requires.1 c.requires.2 _ (rw c.in-Max.is)
+
+pub returns-in-Class : goal.returns-in-Class
+unfolding keep_in
+returns-in-Class c =
+    kept-as c.args.h c.args.v c.requires.1 c.requires.2 _ (rw c.in-Class.is)
+
+pub returns-in-Sub : goal.returns-in-Sub
+unfolding keep_in
+returns-in-Sub c =
+    kept-as c.args.h c.args.v c.requires.1 c.requires.2 _ (rw c.in-Sub.is)
+
+pub returns-in-Sub1 : goal.returns-in-Sub1
+unfolding keep_in
+returns-in-Sub1 c =
+    kept-as c.args.h c.args.v c.requires.1 c.requires.2 _ (rw c.in-Sub1.is)
+
+pub returns-in-Row : goal.returns-in-Row
+unfolding keep_in
+returns-in-Row c =
+    kept-as c.args.h c.args.v c.requires.1 c.requires.2 _ (rw c.in-Row.is)

@@ -1,0 +1,13 @@
+use Rattle.lists.proofs.Laws.{tests}
+use Rattle.table.specs.Header.{min_in}
+use Rattle.table.proofs.value.min_value.Goals as goal
+
+pub returns-then-d-eq0 : goal.returns-then-d-eq0
+unfolding min_in
+returns-then-d-eq0 c =
+    search (tests, ← c.digit_value-d.ensures)
+
+pub returns : goal.returns
+unfolding min_in
+returns c =
+    search (tests, ← c.digit_value-d.ensures)
