@@ -115,8 +115,7 @@ fn put_loaded(loaded: Loaded, rec: &mut [u32], res: &mut [u64]) -> u32
 }
 
 // Loads a table's text into lent memory.
-#[unsafe(no_mangle)]
-pub extern "C" fn oboepond_load(
+pub fn oboepond_load(
     text: &[u8],
     rec: &mut [u32],
     states: &mut [u16],
@@ -148,8 +147,7 @@ pub extern "C" fn oboepond_load(
 }
 
 // The test behind number 60.
-#[unsafe(no_mangle)]
-pub extern "C" fn oboepond_check(
+pub fn oboepond_check(
     rec: &[u32],
     states: &[u16],
     codes: &[u32],
@@ -184,8 +182,7 @@ pub(crate) fn scheme_in(number: u32) -> Named
 }
 
 // From a table's bytes to Unicode.
-#[unsafe(no_mangle)]
-pub extern "C" fn oboepond_to_unicode(
+pub fn oboepond_to_unicode(
     rec: &[u32],
     states: &[u16],
     codes: &[u32],
@@ -227,8 +224,7 @@ pub extern "C" fn oboepond_to_unicode(
 }
 
 // From Unicode to a table's bytes.
-#[unsafe(no_mangle)]
-pub extern "C" fn oboepond_from_unicode(
+pub fn oboepond_from_unicode(
     rec: &[u32],
     states: &[u16],
     codes: &[u32],
@@ -271,8 +267,7 @@ pub extern "C" fn oboepond_from_unicode(
 }
 
 // From a table's bytes to UTF-8.
-#[unsafe(no_mangle)]
-pub extern "C" fn oboepond_to_utf8(
+pub fn oboepond_to_utf8(
     rec: &[u32],
     states: &[u16],
     codes: &[u32],
@@ -297,8 +292,7 @@ pub extern "C" fn oboepond_to_utf8(
 }
 
 // From UTF-8 to a table's bytes.
-#[unsafe(no_mangle)]
-pub extern "C" fn oboepond_from_utf8(
+pub fn oboepond_from_utf8(
     rec: &[u32],
     states: &[u16],
     codes: &[u32],
@@ -351,8 +345,7 @@ fn put_audited(audited: Audited, res: &mut [u64]) -> u32
 }
 
 // One call of the audit.
-#[unsafe(no_mangle)]
-pub extern "C" fn oboepond_audit(
+pub fn oboepond_audit(
     rec: &[u32],
     states: &[u16],
     codes: &[u32],

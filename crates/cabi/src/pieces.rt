@@ -292,8 +292,7 @@ fn close_by(
 }
 
 // One call on a piece, from a table's bytes to Unicode.
-#[unsafe(no_mangle)]
-pub extern "C" fn oboepond_to_unicode_piece(
+pub fn oboepond_to_unicode_piece(
     rec: &[u32],
     states: &[u16],
     codes: &[u32],
@@ -339,8 +338,7 @@ pub extern "C" fn oboepond_to_unicode_piece(
 }
 
 // One call on a piece, from Unicode to a table's bytes.
-#[unsafe(no_mangle)]
-pub extern "C" fn oboepond_from_unicode_piece(
+pub fn oboepond_from_unicode_piece(
     rec: &[u32],
     states: &[u16],
     codes: &[u32],
@@ -387,8 +385,7 @@ pub extern "C" fn oboepond_from_unicode_piece(
 }
 
 // The closing call, from a table's bytes to Unicode.
-#[unsafe(no_mangle)]
-pub extern "C" fn oboepond_to_unicode_close(
+pub fn oboepond_to_unicode_close(
     rec: &[u32],
     states: &[u16],
     codes: &[u32],
@@ -432,8 +429,7 @@ pub extern "C" fn oboepond_to_unicode_close(
 }
 
 // The closing call, from Unicode to a table's bytes.
-#[unsafe(no_mangle)]
-pub extern "C" fn oboepond_from_unicode_close(
+pub fn oboepond_from_unicode_close(
     rec: &[u32],
     states: &[u16],
     codes: &[u32],

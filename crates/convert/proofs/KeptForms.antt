@@ -8,7 +8,6 @@ use native.Mathlib.Omega.{arith}
 use borrow.Author.Tests.{le-leb, leb-true, eqb-true, ne_eqb}
 use lib.Dec.{eqb, leb}
 use lib.ListN.{length}
-use Rattle.lists.specs.Pick.{◌and◌}
 use Rattle.lists.proofs.Laws.{and_left, and_right, and_yes}
 use Rattle.lists.proofs.Cases.{pick-case, pick_no}
 use Rattle.utf.specs.declared.utf8.Stop.{Stop}

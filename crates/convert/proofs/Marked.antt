@@ -2,30 +2,25 @@
 -- mark_of-unmarked, read_in-unmarked   a scheme that has no mark      side_of-ordered_by   UTF-32 in an order
 -- drop-marked, put-behind   the output behind the mark, lent and back     written_behind, read_behind   the answer's counts
 use mathlib.Core.Path.{◌≡◌, refl, sym, ap, ◌∙◌}
-use Prim.Native.Nat.{ℕ, ◌+◌, ◌-◌, ◌≤◌, ◌<◌}
-use mathlib.Core.Bool.{Bool, true, false}
+use Prim.Native.Nat.{ℕ, ◌+◌, ◌≤◌}
 use mathlib.Core.List.{List, [], ◌∷◌, ◌++◌, append-nil, append_assoc}
 use mathlib.Core.Logic.{inl, inr}
 use native.Mathlib.Omega.{arith}
 use native.Mathlib.Nat.{zero-add, add_comm}
-use borrow.Author.Tests.{le-leb, lt-leb, leb-true, leb-false}
 use types.Run.{OneOf}
 use denote.Enum.Declared.{tag_of}
 use lib.ListN.{length, take, drop, length-append, length-drop, drop_of_length-le}
 use lib.Seq.{take-append_seam, drop-append_seam, drop-drop}
 use Rattle.lists.specs.Place.{placed}
-use Rattle.utf.specs.Utf32.{mark_in}
 use Rattle.utf.specs.Scheme.{Side, utf32, side_of, ordered_by}
 use Rattle.utf.specs.declared.utf32.ByteOrder.{ByteOrder}
 use Rattle.utf.specs.declared.utf32.ByteOrder.TheVariants.{Big, Little}
 use Rattle.utf.specs.declared.scheme.Scheme.{Scheme}
 use Rattle.utf.specs.declared.scheme.Scheme.TheVariants as scheme
 use Rattle.utf.specs.contracts.scheme.Scheme as schemes
-use Rattle.utf.proofs.Words.{length-encode_in}
-use Rattle.convert.specs.Run.{Run, after, ended_with, converted_of, put_out}
-use Rattle.convert.specs.Convert.{mark_of, write_in, read_in}
+use Rattle.convert.specs.Run.{Run, after, converted_of, put_out}
+use Rattle.convert.specs.Convert.{mark_of, read_in}
 use Rattle.convert.specs.declared.Converted.{Converted}
-use Rattle.convert.specs.declared.RunEnd.TheVariants.{OutputFull}
 
 -- a scheme that is not plain UTF-32 has no mark
 abbrev Unmarked : Scheme → Type 0

@@ -8,7 +8,6 @@ use native.Mathlib.Nat.{add-zero}
 use lib.Dec.{leb}
 use lib.ListN.{length}
 use Rattle.lists.specs.Order.{All}
-use Rattle.lists.specs.Pick.{◌and◌}
 use Rattle.lists.proofs.Cases.{pick-case}
 use Rattle.utf.specs.declared.utf8.Stop.{Stop}
 use Rattle.utf.specs.declared.utf8.Stop.TheVariants as stopped
@@ -20,7 +19,6 @@ use Rattle.convert.specs.declared.pieces.Way.{Way}
 use Rattle.convert.specs.declared.pieces.Kept.{Kept}
 use Rattle.convert.specs.declared.pieces.PieceEnd.{PieceEnd}
 use Rattle.convert.specs.declared.pieces.PieceEnd.TheVariants.{Ended}
-use Rattle.convert.proofs.LoadedText.{kept}
 
 -- what a call handed back
 abbrev pub answer_in : PieceCall → PieceAnswer

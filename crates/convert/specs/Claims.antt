@@ -13,7 +13,7 @@ use Rattle.table.specs.States.{is_code}
 use Rattle.table.specs.Codes.{AllByte}
 use Rattle.table.specs.Meaning.{Line, Table, steps_of, reader}
 use Rattle.convert.specs.Run.{Gives, give, stop, SequenceStep, Run, run_of}
-use Rattle.convert.specs.Step.{Written, code, writes}
+use Rattle.convert.specs.Step.{Written, writes}
 use Rattle.convert.specs.Convert.{read_in, to_side}
 use Rattle.convert.specs.declared.RunEnd.TheVariants.{AllRead}
 use Rattle.convert.specs.declared.Settings.{Settings}

@@ -1,38 +1,26 @@
 -- Calls of `load`: when it refuses and what it then leaves; what an accepted text leaves.
-use Prim.Native.Nat.{ℕ, ◌+◌, ◌<◌, ◌≤◌}
+use Prim.Native.Nat.{ℕ}
 use native.Mathlib.Omega.{arith}
 use mathlib.Core.Path.{◌≡◌, refl, sym, ap, ◌∙◌, subst}
-use mathlib.Core.Logic.{◌↔◌, ◌⊎◌, inl, inr}
-use mathlib.Core.Bool.{Bool, true, false}
-use mathlib.Core.List.{List, [], ◌∷◌, ◌++◌}
-use lib.ListN.{length, drop, replicate}
-use lib.Dec.{ltb, leb, lit≤}
-use borrow.Author.Tests.{ltb-true, ltb-false}
-use Rattle.lists.specs.Pick.{pick}
-use Rattle.lists.specs.Order.{All, In}
-use Rattle.table.specs.Limits.{Limits, limits, needed}
+use mathlib.Core.Logic.{◌↔◌}
+use mathlib.Core.Bool.{true}
+use lib.Dec.{lit≤}
+use Rattle.table.specs.Limits.{limits}
 use Rattle.table.specs.Meaning.{Table}
-use Rattle.table.specs.Text.{lines_of}
 use Rattle.table.specs.Rules.{Keeps}
 use Rattle.table.specs.Grammar.{TableText}
-use Rattle.table.specs.Slices.{Slices, Lent}
+use Rattle.table.specs.Slices.{Slices}
 use Rattle.table.specs.Memory.{Form, Proper}
 use Rattle.table.specs.Valid.{valid}
-use Rattle.table.specs.FirstLine.{FirstHolds, NeverEnds}
-use Rattle.table.specs.Load.{Outcome, accepted, refused, load_of, Given, untouched, read, zero_record, loaded_by, given, left_in}
+use Rattle.table.specs.Load.{accepted, refused, Given, untouched, read, loaded_by, given, left_in}
 use Rattle.table.specs.declared.valid.Record.{Record}
-use Rattle.table.specs.declared.load.Answer.{Answer}
 use Rattle.table.specs.declared.load.Answer.TheVariants.{Accepted, Refused}
 use Rattle.table.specs.declared.load.Loaded.{Loaded}
 use Rattle.table.specs.declared.load.Refusal.{Refusal}
-use Rattle.table.specs.declared.load.Refusal.TheVariants as refusal
-use Rattle.table.proofs.RunSteps.{long-enough}
 use Rattle.table.proofs.GivenText.{given-loaded, given-lent}
 use Rattle.table.proofs.LoadedForm.{LoadedForm, loaded-form}
 use Rattle.table.proofs.TextRead as text
-use Rattle.table.proofs.FirstLine.{refused-exactly}
 use Rattle.promises.specs.Calls.{LoadCall, text_of, lent_to, left_after, MayLoad, AcceptedAs}
-use Rattle.promises.specs.Words.{RefusedFor, AllZeroed, SameBeyond}
 
 -- ## The contract, read
 

@@ -1,9 +1,9 @@
 -- Calls of `list_codes`, page by page, each as the function's own contract has it: what they put is what the definitions put.
 use Prim.Native.Nat.{ℕ, ◌≤◌}
 use mathlib.Core.Path.{◌≡◌, refl, ap, ◌∙◌, subst}
-use mathlib.Core.Bool.{Bool, false}
+use mathlib.Core.Bool.{false}
 use mathlib.Core.List.{List, [], ◌∷◌, ◌++◌, map}
-use lib.ListN.{length, take}
+use lib.ListN.{length}
 use Rattle.table.specs.Slices.{Slices}
 use Rattle.table.specs.declared.valid.Record.{Record}
 use Rattle.audit.specs.Audit.{Answer}

@@ -1,13 +1,11 @@
 -- THE WHOLE OUTPUT OF REAL CALLS: `load`, `report_table`, `report_frames`, `report_last`, `list_codes` and `report_closing`, each as the function's own
 -- contract has it, called in the program's order with what the calls before handed back, put just what document 01 has the program write.
-use Prim.Native.Nat.{ℕ, ◌≤◌}
+use Prim.Native.Nat.{ℕ}
 use native.Mathlib.Omega.{arith}
 use mathlib.Core.Path.{◌≡◌, refl, sym, ap, ◌∙◌, subst}
-use mathlib.Core.Bool.{true, false}
 use mathlib.Core.List.{List, [], ◌∷◌, ◌++◌, map, flatten}
-use lib.ListN.{length}
 use Rattle.table.specs.Limits.{limits}
-use Rattle.table.specs.Slices.{Slices, Lent}
+use Rattle.table.specs.Slices.{Slices}
 use Rattle.table.specs.Load.{Outcome, accepted, refused, load_of, loaded_as, loaded_by, given}
 use Rattle.table.specs.declared.load.Answer.TheVariants.{Accepted, Refused}
 use Rattle.table.specs.declared.load.Loaded.{Loaded}
@@ -21,7 +19,7 @@ use Rattle.frames.specs.loops.Claims.{only_accepted, pages_put, all_put, Through
 use Rattle.table.proofs.GivenText.{given-lent}
 use Rattle.frames.proofs.Output as output
 use Rattle.promises.specs.Calls.{text_of, lent_to, left_after}
-use Rattle.promises.specs.Program.{PieceCalls, frames_put, last_put, list_put, table_put, closing_listing, closing_put, Begun, Rest, Course, stops, goes, written, Reads}
+use Rattle.promises.specs.Program.{PieceCalls, table_put, closing_listing, closing_put, Begun, Rest, Course, stops, goes, written, Reads}
 use Rattle.promises.proofs.LoadCalls.{answered, slices-left}
 use Rattle.promises.proofs.FrameCalls.{piece_of, frames-put}
 use Rattle.promises.proofs.PageCalls.{page_rooms, list_put_lem}

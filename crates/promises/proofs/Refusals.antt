@@ -4,13 +4,13 @@ use native.Mathlib.Omega.{arith}
 use mathlib.Core.Path.{◌≡◌, refl, sym, ap, ◌∙◌, subst}
 use mathlib.Core.Logic.{◌↔◌, ◌⊎◌, inl, inr}
 use mathlib.Core.Bool.{Bool, true, false}
-use mathlib.Core.List.{List, [], ◌∷◌, ◌++◌}
+use mathlib.Core.List.{List, [], ◌++◌}
 use lib.ListN.{length, take, drop, replicate, length-replicate, length-append, length-take}
 use lib.Seq.{drop_at}
 use lib.Dec.{ltb, lit≤}
 use borrow.Author.Tests.{ltb-true, ltb-false}
 use Rattle.lists.specs.Pick.{pick}
-use Rattle.lists.specs.Order.{All, In}
+use Rattle.lists.specs.Order.{All}
 use Rattle.lists.proofs.Order.{All-In⁻}
 use Rattle.table.specs.Limits.{Limits, limits, needed}
 use Rattle.table.specs.Keys.{Keys}
@@ -23,7 +23,7 @@ use Rattle.table.specs.Header.{header_line_of}
 use Rattle.table.specs.Mapping.{body_line_of, after_end_of, BodyLine, no_form, reserved, blank, ending, mapping}
 use Rattle.table.specs.Numbers.{Cond, cond, refusal_number, n1, behind_conditions, key_conditions, charmap_conditions, mapping_conditions}
 use Rattle.table.specs.FirstLine.{FirstHolds, NeverEnds, conditions_at, reading_after_all}
-use Rattle.table.specs.Load.{Reading, start, Asks, header_asks, mapping_asks, last_asks, phase_asks, Outcome, accepted, refused, load_of, Given, untouched, read, zero_record, loaded_as, loaded_by, given, left_in, states_of, codes_of, infos_of, ordered_of}
+use Rattle.table.specs.Load.{start, header_asks, mapping_asks, phase_asks, Outcome, accepted, refused, load_of, Given, untouched, read, zero_record, loaded_as, loaded_by, given, left_in, states_of, codes_of, infos_of, ordered_of}
 use Rattle.table.specs.declared.header.HeaderLine.{HeaderLine}
 use Rattle.table.specs.declared.header.HeaderLine.TheVariants as header
 use Rattle.table.specs.declared.load.Phase.{Phase}
@@ -36,7 +36,7 @@ use Rattle.table.proofs.RunSteps.{long-enough}
 use Rattle.table.proofs.GivenText.{given-lent}
 use Rattle.table.proofs.Leaves.{left-form}
 use Rattle.table.proofs.FirstLine.{refused-exactly}
-use Rattle.promises.specs.Calls.{LoadCall, text_of, lent_to, left_after, MayLoad}
+use Rattle.promises.specs.Calls.{LoadCall, text_of, lent_to, left_after}
 use Rattle.promises.specs.Words.{RefusedFor, AllZeroed, SameBeyond}
 use Rattle.promises.proofs.LoadCalls.{answered, slices-left}
 use Rattle.lists.specs.Place.{filled}
