@@ -1,5 +1,5 @@
 //! One interface, told in three places: the exported functions in
-//! crates/cabi/src, include/oboepond.h, and bindings/rust/src/sys.rs. They are
+//! crates/cabi_c/src, include/oboepond.h, and bindings/rust/src/sys.rs. They are
 //! read as text, and each function must have the same parameters, kinds and
 //! result in all three. The crate's safe conversions must name what is behind the
 //! table's slices in the same order. The numbers, messages and versions of the
@@ -31,7 +31,10 @@ impl Texts {
             table_header: text("include/oboepond_table.h"),
             sys: text("bindings/rust/src/sys.rs"),
             slices: text("bindings/rust/src/slices.rs"),
-            rattle: text("crates/cabi/src/lib.rt") + &text("crates/cabi/src/pieces.rt"),
+            // the exports, and the numbers of the functions that they call
+            rattle: ["cabi_c/src/lib.rt", "cabi/src/lib.rt", "cabi/src/pieces.rt"]
+                .map(|file| text(&format!("crates/{file}")))
+                .concat(),
             cargo: text("bindings/rust/Cargo.toml"),
         }
     }
@@ -73,7 +76,7 @@ fn functions(texts: &Texts) -> Vec<Outcome> {
     let read = [
         ("include/oboepond.h", in_header(&texts.header)),
         ("bindings/rust/src/sys.rs", in_sys(&texts.sys)),
-        ("crates/cabi/src", in_rattle(&texts.rattle)),
+        ("crates/cabi_c/src", in_rattle(&texts.rattle)),
     ];
     let mut outcomes = Vec::new();
     let mut lists = Vec::new();
@@ -157,7 +160,7 @@ fn in_sys(sys: &str) -> Result<Signatures, String> {
 fn in_rattle(rattle: &str) -> Result<Signatures, String> {
     let code = without(rattle, "//", "\n");
     let mut found = Signatures::new();
-    for (name, inside, rest) in behind(&code, "#[no_mangle]\npub extern \"C\" fn ") {
+    for (name, inside, rest) in behind(&code, "#[unsafe(no_mangle)]\npub extern \"C\" fn ") {
         let parameters: Result<Vec<(String, Kind)>, String> = split(inside).map(rattle_parameter).collect();
         insert(&mut found, name, parameters?, result(rest)?)?;
     }
@@ -220,10 +223,14 @@ fn sys_parameter(text: &str) -> Result<Plain, String> {
     Ok(Plain { name: name.into(), of: of.into(), pointer })
 }
 
-/// `record` is a word of Rattle, so the parameter is called `rec` there.
+/// `record` and `result` are words of Rattle, so the parameters are called `rec` and `res` there.
 fn rattle_parameter(text: &str) -> Result<(String, Kind), String> {
     let (name, of) = typed(text)?;
-    let name = if name == "rec" { "record" } else { name };
+    let name = match name {
+        "rec" => "record",
+        "res" => "result",
+        _ => name,
+    };
     let slice = |front: &str| of.strip_prefix(front)?.strip_suffix(']').map(String::from);
     let kind = match (slice("&["), slice("&mut [")) {
         (Some(of), _) => Kind::Slice { of, written: false },

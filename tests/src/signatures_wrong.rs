@@ -98,7 +98,7 @@ const WRONG: &[Wrong] = &[
     (
         "a function that Rattle does not export",
         RATTLE,
-        "#[no_mangle]\npub extern \"C\" fn oboepond_check(",
+        "#[unsafe(no_mangle)]\npub extern \"C\" fn oboepond_check(",
         "pub fn oboepond_check(",
         &["header and Rattle, oboepond_check"],
     ),
@@ -195,7 +195,7 @@ const UNREADABLE: &[(&str, File, &str, &str, &str)] = &[
         "functions of bindings/rust/src/sys.rs",
     ),
     ("a type that is unknown", HEADER, "uint64_t allowance", "long allowance", "functions of include/oboepond.h"),
-    ("a function exported without its name", RATTLE, "#[no_mangle]", "", "functions of crates/cabi/src"),
+    ("a function exported without its name", RATTLE, "#[unsafe(no_mangle)]", "", "functions of crates/cabi_c/src"),
 ];
 
 /// What is refused after a change.
