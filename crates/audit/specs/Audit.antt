@@ -4,7 +4,8 @@
 -- call on a table and on lent memory (`audit_tested`); entries as numbers, and what a call hands back and leaves in its
 -- space.
 -- Cases: specs/Cases.antt
-use Rattle.std.specs.Prelude.{if◌then◌else◌, ℕ, zero, suc, ◌+◌, ◌*◌, ◌/◌, ◌%◌, Bool, false, List, [], ◌++◌, map, eqb, length, drop}
+use Rattle.std.specs.Prelude.{if◌then◌else◌, ℕ, zero, suc, ◌+◌, ◌*◌, ◌/◌, ◌%◌, Bool}
+use Rattle.std.specs.Prelude.{false, List, [], ◌++◌, map, eqb, length, drop}
 use Rattle.std.proofs.Math.Option.{Option, none, some}
 use Rattle.lists.specs.Pick.{◌and◌}
 use Rattle.lists.specs.Paging.{Pageable, Page, map_position, stopped_at, entries_for, page_from}
@@ -117,8 +118,9 @@ is_position step pos =
 -- a call on a table: 40 for what is no position
 unfoldable pub audit_on : Table → Bool → Code → ℕ → ℕ → Answer
 audit_on t fallback pos allowance space =
-    if is_position (steps_of t) pos then looked (page_from (pageable_codes t fallback) allowance space (bytes_of pos)) else
-    refused BadPosition pos
+    if is_position (steps_of t) pos
+    then looked (page_from (pageable_codes t fallback) allowance space (bytes_of pos))
+    else refused BadPosition pos
 
 -- a call on record and lent memory, whatever they are: 60 where they are not valid, before 40
 unfoldable pub audit_tested : Limits → Record → Slices → Bool → Code → ℕ → ℕ → Answer

@@ -83,7 +83,8 @@ abbrev pub seen_as : Reply → List ℕ → Seen
 seen_as (answered number long read output) out =
     conversion number long read (length output) (output ++ drop (length output) out)
 seen_as (audited number entries count position finished) out =
-    call number (length entries) count (code_of position) finished (map entry_number entries ++ drop (length entries) out)
+    call number (length entries) count (code_of position) finished
+    (map entry_number entries ++ drop (length entries) out)
 
 -- a call with an output slice of this length, and its reply
 pub record Case : Type 0 where

@@ -16,7 +16,8 @@ use Rattle.table.specs.declared.load.Loaded.{Loaded}
 use Rattle.table.specs.declared.states.Code.{Code}
 use Rattle.convert.specs.Run.{Run, put_bytes, put_out, end_number, run_length}
 use Rattle.convert.specs.Convert.{to_tested, from_tested}
-use Rattle.convert.specs.Pieces.{state_at, place_at, PieceAnswer, piece_tested, close_tested, piece_number, piece_length}
+use Rattle.convert.specs.Pieces.{state_at, place_at, PieceAnswer, piece_tested}
+use Rattle.convert.specs.Pieces.{close_tested, piece_number, piece_length}
 use Rattle.convert.specs.loops.Carried.{is_refused}
 use Rattle.convert.specs.declared.Settings.{Settings}
 use Rattle.convert.specs.declared.pieces.Way.{Way}

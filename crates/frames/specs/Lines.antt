@@ -3,7 +3,8 @@
 -- Contents: bytes and numbers as digits; the lines written (`ok_line`, `refused_line`, `answer_line`, `finding_line`,
 -- `closing_line`); a text put into an output slice; a frame's line read (`parsed`).
 -- Cases: proofs/Cases.antt
-use Rattle.std.specs.Prelude.{if◌then◌else◌, ◌≡◌, ℕ, zero, suc, ◌+◌, ◌-◌, ◌*◌, ◌/◌, ◌%◌, Bool, true, false, List, [], ◌∷◌, ◌++◌, length, ◌==◌, nat_eq, nat_lt, slice_index}
+use Rattle.std.specs.Prelude.{if◌then◌else◌, ◌≡◌, ℕ, zero, suc, ◌+◌, ◌-◌, ◌*◌, ◌/◌, ◌%◌, Bool, true}
+use Rattle.std.specs.Prelude.{false, List, [], ◌∷◌, ◌++◌, length, ◌==◌, nat_eq, nat_lt, slice_index}
 use Rattle.std.proofs.Math.Option.{Option, none, some}
 use Rattle.lists.specs.Ascii.{ascii, byte}
 use Rattle.lists.specs.Pick.{◌and◌}

@@ -33,7 +33,8 @@ frames_output t input = flatten (map (λ line. frame_line (to_utf8 t) (parsed li
 -- the audit, fallback off: a line for each finding of the plain list, code and cause; then how many complete codes
 -- there are, and findings
 unfoldable pub audit_output : Table → List ℕ
-audit_output t = finding_lines (plain_list t false) ++ closing_line (length (complete_codes t)) (length (plain_list t false))
+audit_output t =
+    finding_lines (plain_list t false) ++ closing_line (length (complete_codes t)) (length (plain_list t false))
 
 -- an accepted text: `TABLE OK` and the count of mappings, the frames, and then the audit; a refused one: `TABLE
 -- REFUSED`, number and line, alone

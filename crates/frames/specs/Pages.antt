@@ -1,7 +1,8 @@
 -- What the program writes of the audit (document 01: `the audit follows the frames`): its findings a page at a time,
 -- and the closing line.
 -- Cases: proofs/Cases.antt
-use Rattle.std.specs.Prelude.{if◌then◌else◌, ℕ, ◌+◌, ◌/◌, ◌%◌, Bool, true, false, not, List, [], ◌∷◌, ◌++◌, length, nat_eq, nat_lt}
+use Rattle.std.specs.Prelude.{if◌then◌else◌, ℕ, ◌+◌, ◌/◌, ◌%◌, Bool, true, false}
+use Rattle.std.specs.Prelude.{not, List, [], ◌∷◌, ◌++◌, length, nat_eq, nat_lt}
 use Rattle.lists.specs.Pick.{◌and◌}
 use Rattle.table.specs.Limits.{limits}
 use Rattle.lists.specs.Strings.{after}

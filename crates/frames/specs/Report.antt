@@ -2,7 +2,8 @@
 -- line for each frame, whatever pieces the input comes in.
 -- Contents: the table's line; a frame's line; one call on a piece of input (`reporting_of`).
 -- Cases: proofs/Cases.antt
-use Rattle.std.specs.Prelude.{if◌then◌else◌, ℕ, zero, suc, ◌+◌, ◌-◌, false, List, [], ◌∷◌, ◌++◌, length, drop, ◌==◌, nat_le}
+use Rattle.std.specs.Prelude.{if◌then◌else◌, ℕ, zero, suc, ◌+◌, ◌-◌, false, List}
+use Rattle.std.specs.Prelude.{[], ◌∷◌, ◌++◌, length, drop, ◌==◌, nat_le}
 use Rattle.std.proofs.Math.Option.{Option, none, some}
 use Rattle.utf.specs.declared.scheme.Scheme.TheVariants.{Utf8}
 use Rattle.table.specs.Limits.{limits}

@@ -1,6 +1,7 @@
 -- The lines of standard input (document 01: one frame a line), and how they are found where the input comes in pieces.
 -- Cases: proofs/Cases.antt
-use Rattle.std.specs.Prelude.{if◌then◌else◌, ℕ, ◌+◌, Bool, true, false, not, List, [], ◌∷◌, ◌++◌, map, length, take, drop, ◌==◌, nat_le, nat_lt}
+use Rattle.std.specs.Prelude.{if◌then◌else◌, ℕ, ◌+◌, Bool, true, false, not, List, [], ◌∷◌}
+use Rattle.std.specs.Prelude.{◌++◌, map, length, take, drop, ◌==◌, nat_le, nat_lt}
 use Rattle.lists.specs.Ascii.{byte}
 use Rattle.lists.specs.Order.{prefix_length}
 use Rattle.lists.specs.Strings.{onto}

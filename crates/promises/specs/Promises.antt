@@ -1,7 +1,8 @@
 -- EVERYTHING THAT IS PROMISED, as one record over calls of the public functions: the three demands, clause by clause,
 -- the starred cases, and the program. It is proved whole as `promises` in proofs/Promises.antt; docs/PROMISES.md goes
 -- through its fields.
-use Rattle.std.specs.Prelude.{ℕ, ◌+◌, ◌-◌, ◌*◌, ◌<◌, ◌≤◌, ◌≡◌, ◌↔◌, Bool, true, false, List, [], ◌++◌, map, length, drop}
+use Rattle.std.specs.Prelude.{ℕ, ◌+◌, ◌-◌, ◌*◌, ◌<◌, ◌≤◌, ◌≡◌, ◌↔◌, Bool, true}
+use Rattle.std.specs.Prelude.{false, List, [], ◌++◌, map, length, drop}
 use Rattle.std.proofs.Math.Option.{none, some}
 use Rattle.lists.specs.Ascii.{ascii}
 use Rattle.lists.specs.Order.{All, In}
@@ -134,8 +135,8 @@ pub record Demand1 : Type 2 where
   -- `audit`: on any record, memory, position, allowance and space; 60 and 40 leave the space untouched
   pub audit-answers : (c : AuditFunctionCall)
       → let space = length (space_lent c) in
-      let a =
-      audit_tested limits (record_audited c) (slices_audited c) (fallback_of c) (position_of c) (allowance_of c) space in
+      let a = audit_tested limits (record_audited c) (slices_audited c)
+      (fallback_of c) (position_of c) (allowance_of c) space in
       AuditsBy a c
   pub audit-refuses : (c : AuditFunctionCall) → (c.result.ending ≡ ending.Looked → ⊥)
       → AuditsBy (refused c.result.ending (position_of c)) c × (space_afterwards c ≡ space_lent c)

@@ -7,7 +7,8 @@
 -- MappingRead, HeaderRead, ValueRead, RowRead, RowWritten, FormsRead; what rows say, and which entries 14 and 15 name:
 -- RowSays, RowEntries; whole texts: TextRead (`accepted-exactly`); the numbers: NumbersRead.
 -- Cases: proofs/TextCases.antt (table K, and K with every liberty)
-use Rattle.std.specs.Prelude.{if◌then◌else◌, ℕ, ◌+◌, ◌*◌, ◌<◌, ◌≤◌, ◌-◌, ◌≡◌, ◌⊎◌, Bool, true, false, List, [], ◌∷◌, ◌++◌, map, reverse, length}
+use Rattle.std.specs.Prelude.{if◌then◌else◌, ℕ, ◌+◌, ◌*◌, ◌<◌, ◌≤◌, ◌-◌, ◌≡◌, ◌⊎◌, Bool}
+use Rattle.std.specs.Prelude.{true, false, List, [], ◌∷◌, ◌++◌, map, reverse, length}
 use Rattle.std.proofs.Math.Option.{Option, none, some}
 use Rattle.lists.specs.Order.{All, In}
 use Rattle.lists.specs.Ascii.{ascii, byte}

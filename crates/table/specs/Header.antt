@@ -4,7 +4,8 @@
 -- Contents: keys; quoted values; the value of each known key (`value_of`); a value by its case (`by_value`); a line
 -- (`header_line_of`).
 -- Cases: proofs/HeaderCases.antt
-use Rattle.std.specs.Prelude.{if◌then◌else◌, ℕ, ◌+◌, ◌-◌, ◌/◌, List, [], ◌∷◌, Bool, true, false, length, take, drop, ltb, leb, eqb}
+use Rattle.std.specs.Prelude.{if◌then◌else◌, ℕ, ◌+◌, ◌-◌, ◌/◌, List, [], ◌∷◌, Bool}
+use Rattle.std.specs.Prelude.{true, false, length, take, drop, ltb, leb, eqb}
 use Rattle.lists.specs.Ascii.{ascii, byte}
 use Rattle.table.specs.Codes.{packed, first_byte_unit}
 use Rattle.lists.specs.Strings.{same}
@@ -88,8 +89,9 @@ class_in v (Inside a e) = class_name (take (e - a) (drop a v))
 unfoldable pub digit_in : List ℕ → ℕ → ℕ
 digit_in v at =
     if ltb (byte_of v at) (byte "1") then 0 else
-    if leb (byte_of v at) (byte "4") then (if leb (length v) (skip_at v (at + 1)) then byte_of v at - byte "0" else 0) else
-    0
+    if leb (byte_of v at) (byte "4")
+    then (if leb (length v) (skip_at v (at + 1)) then byte_of v at - byte "0" else 0)
+    else 0
 
 unfoldable pub min_in : ℕ → Value
 min_in d = if eqb d 0 then Unfit else Min d

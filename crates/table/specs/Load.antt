@@ -3,7 +3,8 @@
 -- Contents: what was read so far; the keys with one more value; what a line asks (`line_asks`); line after line
 -- (`load_of`); what loading into lent slices gives (`given`), hands back (`loaded_by`) and leaves (`left_in`).
 -- Cases: proofs/TextCases.antt
-use Rattle.std.specs.Prelude.{if◌then◌else◌, ℕ, ◌+◌, ◌-◌, true, false, List, [], ◌∷◌, ◌++◌, map, length, take, drop, replicate}
+use Rattle.std.specs.Prelude.{if◌then◌else◌, ℕ, ◌+◌, ◌-◌, true, false, List, []}
+use Rattle.std.specs.Prelude.{◌∷◌, ◌++◌, map, length, take, drop, replicate}
 use Rattle.std.proofs.Math.Option.{some}
 use Rattle.table.specs.Limits.{Limits, needed}
 use Rattle.table.specs.Cells.{Cell}

@@ -2,7 +2,8 @@
 -- needed places, and a record; docs/MEMORY.md): the record and the lent numbers of a table. One form for one meaning.
 -- Contents: stored lines in both orders; the record; `Form`, the form of a table; `table_in`, the table that memory
 -- holds; `Proper`, a table as a text can give it.
-use Rattle.std.specs.Prelude.{if◌then◌else◌, ℕ, zero, suc, ◌+◌, ◌-◌, ◌≤◌, ◌<◌, Bool, ◌≡◌, List, [], ◌∷◌, map, eqb, length, take, drop, get_or}
+use Rattle.std.specs.Prelude.{if◌then◌else◌, ℕ, zero, suc, ◌+◌, ◌-◌, ◌≤◌, ◌<◌, Bool, ◌≡◌}
+use Rattle.std.specs.Prelude.{List, [], ◌∷◌, map, eqb, length, take, drop, get_or}
 use Rattle.std.proofs.Math.Option.{Option, none, some}
 use Rattle.lists.specs.Order.{sort, up_from, All}
 use Rattle.lists.specs.Place.{filled}

@@ -5,7 +5,8 @@
 -- Contents: the number of a refusal; n1 to n28; conditions, and the lowest that holds; the conditions at each kind of
 -- line.
 -- Cases: proofs/HeaderCases.antt, proofs/TextCases.antt
-use Rattle.std.specs.Prelude.{if◌then◌else◌, ℕ, ◌+◌, Bool, true, false, not, List, [], ◌∷◌, length, replicate, ltb, leb, eqb}
+use Rattle.std.specs.Prelude.{if◌then◌else◌, ℕ, ◌+◌, Bool, true, false, not, List}
+use Rattle.std.specs.Prelude.{[], ◌∷◌, length, replicate, ltb, leb, eqb}
 use Rattle.lists.specs.Pick.{◌and◌, ◌or◌}
 use Rattle.table.specs.Limits.{Limits, needed}
 use Rattle.table.specs.Cells.{Cell, ends}

@@ -4,7 +4,8 @@
 -- Contents: the parts of an entry; entries one after the other; entries under 14 and 15; what an entry means, and a
 -- row; `initial`.
 -- Cases: proofs/HeaderCases.antt
-use Rattle.std.specs.Prelude.{if◌then◌else◌, ℕ, zero, suc, ◌+◌, List, [], ◌∷◌, Bool, true, false, length, drop, replicate, ltb, leb, eqb}
+use Rattle.std.specs.Prelude.{if◌then◌else◌, ℕ, zero, suc, ◌+◌, List, [], ◌∷◌, Bool}
+use Rattle.std.specs.Prelude.{true, false, length, drop, replicate, ltb, leb, eqb}
 use Rattle.lists.specs.Ascii.{ascii, byte}
 use Rattle.lists.specs.Pick.{◌or◌}
 use Rattle.table.specs.Cells.{Cell, illegal, ends, ends_any, ends_unassigned, leads}
@@ -19,7 +20,8 @@ use Rattle.table.specs.declared.row.ReadEntry.TheVariants.{More, Last, Wrong}
 
 -- `- number`, or the byte itself
 unfoldable pub to_at : List ℕ → ℕ → ℕ → Num
-to_at s from q = if eqb (byte_of s (skip_at s q)) (byte "-") then number_at s (skip_at s (skip_at s q + 1)) else Val from q
+to_at s from q =
+    if eqb (byte_of s (skip_at s q)) (byte "-") then number_at s (skip_at s (skip_at s q + 1)) else Val from q
 
 -- `: number`, or 256 for none
 unfoldable pub next_at : List ℕ → ℕ → Num
@@ -37,15 +39,19 @@ letter_at s back at =
 -- `.` and a letter or nothing; 0 for no point
 unfoldable pub end_at : List ℕ → ℕ → Num
 end_at s q =
-    if eqb (byte_of s (skip_at s q)) (byte ".") then letter_at s (skip_at s q + 1) (skip_at s (skip_at s q + 1)) else Val 0 q
+    if eqb (byte_of s (skip_at s q)) (byte ".")
+    then letter_at s (skip_at s q + 1) (skip_at s (skip_at s q + 1))
+    else Val 0 q
 
 -- an entry is followed by a comma or by the end
 unfoldable pub entry_sep : List ℕ → Entry → ℕ → ReadEntry
-entry_sep s e at = if leb (length s) at then Last e else if eqb (byte_of s at) (byte ",") then More e (at + 1) else Wrong
+entry_sep s e at =
+    if leb (length s) at then Last e else if eqb (byte_of s at) (byte ",") then More e (at + 1) else Wrong
 
 unfoldable pub entry_end : List ℕ → ℕ → ℕ → ℕ → Num → ReadEntry
 entry_end s from to next Bad = Wrong
-entry_end s from to next (Val end q) = entry_sep s (record { lo = from; hi = to; next = next; kind = end }) (skip_at s q)
+entry_end s from to next (Val end q) =
+    entry_sep s (record { lo = from; hi = to; next = next; kind = end }) (skip_at s q)
 
 unfoldable pub entry_next : List ℕ → ℕ → ℕ → Num → ReadEntry
 entry_next s from to Bad = Wrong

@@ -3,7 +3,8 @@
 -- Contents: lines; digits; blanks, words, quotes and comments; numbers, bytes `\xhh`, code points; runs of bytes;
 -- CHARMAP.
 -- Cases: proofs/HeaderCases.antt, proofs/MappingCases.antt
-use Rattle.std.specs.Prelude.{if◌then◌else◌, ℕ, zero, suc, ◌+◌, ◌*◌, ◌-◌, List, [], ◌∷◌, Bool, true, false, length, get_or, drop, ltb, leb, eqb}
+use Rattle.std.specs.Prelude.{if◌then◌else◌, ℕ, zero, suc, ◌+◌, ◌*◌, ◌-◌, List, [], ◌∷◌}
+use Rattle.std.specs.Prelude.{Bool, true, false, length, get_or, drop, ltb, leb, eqb}
 use Rattle.lists.specs.Ascii.{ascii, byte}
 use Rattle.lists.specs.Pick.{◌and◌, ◌or◌}
 use Rattle.lists.specs.Strings.{begins, onto}

@@ -1,5 +1,6 @@
 // Loading: a table's text into lent memory.
-ghost use Rattle.std.specs.Prelude.{if◌then◌else◌, ◌≡◌, not, List, [], ◌∷◌, ◌++◌, ℕ, ◌+◌, ◌-◌, ◌*◌, ◌≤◌, ◌<◌, leb, length, take, drop, replicate};
+ghost use Rattle.std.specs.Prelude.{if◌then◌else◌, ◌≡◌, not, List, [], ◌∷◌, ◌++◌, ℕ, ◌+◌, ◌-◌};
+ghost use Rattle.std.specs.Prelude.{◌*◌, ◌≤◌, ◌<◌, leb, length, take, drop, replicate};
 ghost use Rattle.lists.specs.Order.{insert};
 ghost use Rattle.table.specs.Limits.{limits, needed};
 ghost use Rattle.table.specs.Cells.{Cell};

@@ -1,6 +1,7 @@
 // State rows in a lent slice of 16-bit numbers: the step of a byte, the cutting of an input into codes, and the test of
 // all rows.
-ghost use Rattle.std.specs.Prelude.{if◌then◌else◌, ◌≡◌, true, false, ℕ, ◌+◌, ◌-◌, ◌*◌, ◌<◌, ◌≤◌, ltb, length, get_or, take, drop};
+ghost use Rattle.std.specs.Prelude.{if◌then◌else◌, ◌≡◌, true, false, ℕ, ◌+◌, ◌-◌, ◌*◌};
+ghost use Rattle.std.specs.Prelude.{◌<◌, ◌≤◌, ltb, length, get_or, take, drop};
 ghost use Rattle.table.specs.Limits.{limits, needed};
 ghost use Rattle.table.specs.States.{step_at, broken_length, cut_from, cut_of, end_kind};
 ghost use Rattle.table.specs.Codes.{unpacked, bytes_of};

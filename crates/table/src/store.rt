@@ -1,11 +1,13 @@
 // Mappings in lent slices of 32-bit numbers, sorted for search from either side: `codes` and `infos` hold the stored
 // mappings rising by code, `order` their indices rising by code point.
-ghost use Rattle.std.specs.Prelude.{if◌then◌else◌, ◌≡◌, true, List, ◌++◌, map, ℕ, ◌+◌, ◌-◌, ◌≤◌, ◌<◌, ltb, length, take, drop, get_or};
+ghost use Rattle.std.specs.Prelude.{if◌then◌else◌, ◌≡◌, true, List, ◌++◌, map, ℕ, ◌+◌};
+ghost use Rattle.std.specs.Prelude.{◌-◌, ◌≤◌, ◌<◌, ltb, length, take, drop, get_or};
 ghost use Rattle.lists.specs.Order.{All, Rising, insert};
 ghost use Rattle.table.specs.Stored.{mk, bits_of, info_of, extra_in, order_key_in, less, point_less};
 ghost use Rattle.table.specs.Limits.{limits};
 ghost use Rattle.table.specs.Memory.{stored_list, stored_at, order_of};
-ghost use Rattle.table.specs.loops.Search.{reads_code, writes_point, is_at, holds_at, FirstAt, place_in, point_place_in};
+ghost use Rattle.table.specs.loops.Search.{reads_code, writes_point, is_at, holds_at};
+ghost use Rattle.table.specs.loops.Search.{FirstAt, place_in, point_place_in};
 ghost use Rattle.table.specs.loops.Search.{picked, read_taken, write_taken, Ready, Kept};
 ghost use Rattle.table.specs.loops.Search.{stored_key, far, GapAt, CodeGap, PointGap, GapTells, HasPoint};
 ghost use Rattle.table.specs.loops.Search.{WindowOf, after_look, point_seen};

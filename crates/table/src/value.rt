@@ -1,7 +1,8 @@
 // The keys of the header and their values, by form.
 ghost use Rattle.std.specs.Prelude.{◌≡◌, ◌≤◌, length, drop};
 ghost use Rattle.table.specs.Text.{skip_at, quote_end, bytes_at};
-ghost use Rattle.table.specs.Header.{key_of, quoted_of, name_in, class_name, class_in, digit_in, min_in, max_in, sub_in};
+ghost use Rattle.table.specs.Header.{key_of, quoted_of, name_in, class_name, class_in};
+ghost use Rattle.table.specs.Header.{digit_in, min_in, max_in, sub_in};
 ghost use Rattle.table.specs.Header.{sub1_value, row_in, value_of};
 ghost use Rattle.lists.specs.Strings.{same};
 ghost use Rattle.table.specs.loops.Ranges.{Ranged};

@@ -3,7 +3,8 @@
 -- Contents: a number and its bytes; the two orders; a code point encoded (`encode_in`); one sequence decoded
 -- (`decode_in`); the byte order mark (`mark_in`, `mark_at`).
 -- Cases: proofs/Vectors.antt
-use Rattle.std.specs.Prelude.{if◌then◌else◌, ℕ, zero, suc, ◌+◌, ◌*◌, ◌/◌, ◌%◌, ◌^◌, List, [], ◌∷◌, reverse, Bool, false, ltb, eqb, length, take}
+use Rattle.std.specs.Prelude.{if◌then◌else◌, ℕ, zero, suc, ◌+◌, ◌*◌, ◌/◌, ◌%◌, ◌^◌, List}
+use Rattle.std.specs.Prelude.{[], ◌∷◌, reverse, Bool, false, ltb, eqb, length, take}
 use Rattle.utf.specs.Utf8.{is_scalar}
 use Rattle.utf.specs.declared.utf8.Stop.TheVariants as stop
 use Rattle.utf.specs.declared.utf8.Sequence.{Sequence}

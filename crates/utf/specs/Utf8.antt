@@ -1,10 +1,11 @@
 -- UTF-8 (document 01, 'The two pipes': RFC 3629), over the length: a code point is a lead byte and k trail bytes of six
 -- bits each.
--- Contents: stop_number; scalar values; what a lead byte says; one sequence decoded (`decode_one`); a code point encoded
--- (`encode_of`), and put into an output slice. Which sequences these are, row by row of RFC 3629's table:
+-- Contents: stop_number; scalar values; what a lead byte says; one sequence decoded (`decode_one`); a code point
+-- encoded (`encode_of`), and put into an output slice. Which sequences these are, row by row of RFC 3629's table:
 -- WellFormed.antt.
 -- Cases: proofs/Vectors.antt
-use Rattle.std.specs.Prelude.{if◌then◌else◌, ℕ, zero, suc, ◌+◌, ◌-◌, ◌*◌, ◌%◌, ◌/◌, ◌^◌, ◌≤◌, ◌<◌, List, [], ◌∷◌, Bool, false, ltb, eqb, length}
+use Rattle.std.specs.Prelude.{if◌then◌else◌, ℕ, zero, suc, ◌+◌, ◌-◌, ◌*◌, ◌%◌, ◌/◌, ◌^◌}
+use Rattle.std.specs.Prelude.{◌≤◌, ◌<◌, List, [], ◌∷◌, Bool, false, ltb, eqb, length}
 use Rattle.lists.specs.Pick.{◌or◌}
 use Rattle.lists.specs.Between.{between}
 use Rattle.lists.specs.Place.{fits, placed}

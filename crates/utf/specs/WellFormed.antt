@@ -1,6 +1,7 @@
 -- Well-formed UTF-8 by RFC 3629's own table (document 01, 'The two pipes': lead 00-7F; C2-DF; E0 then A0-BF; ..), row
 -- by row, apart from how a sequence is decoded. That the two agree: proofs/WellFormed.antt.
-use Rattle.std.specs.Prelude.{ℕ, ◌+◌, ◌-◌, ◌*◌, ◌%◌, ◌≤◌, ◌<◌, ◌≡◌, List, [], ◌∷◌, ◌++◌, Bool, true, false, length, take}
+use Rattle.std.specs.Prelude.{ℕ, ◌+◌, ◌-◌, ◌*◌, ◌%◌, ◌≤◌, ◌<◌, ◌≡◌, List, []}
+use Rattle.std.specs.Prelude.{◌∷◌, ◌++◌, Bool, true, false, length, take}
 use Rattle.lists.specs.Pick.{◌and◌, ◌or◌}
 use Rattle.lists.specs.Between.{between}
 use Rattle.utf.specs.Utf8.{lead_mark}

@@ -1,5 +1,6 @@
 -- Which rows are productive: some code starts in them. The next complete code, found by passing over rows that are not.
-use Rattle.std.specs.Prelude.{if◌then◌else◌, ℕ, zero, suc, ◌+◌, ◌*◌, ◌/◌, ◌%◌, ◌≡◌, List, [], ◌∷◌, map, Bool, true, false, not, ltb, eqb, get_or}
+use Rattle.std.specs.Prelude.{if◌then◌else◌, ℕ, zero, suc, ◌+◌, ◌*◌, ◌/◌, ◌%◌, ◌≡◌, List}
+use Rattle.std.specs.Prelude.{[], ◌∷◌, map, Bool, true, false, not, ltb, eqb, get_or}
 use Rattle.lists.specs.Pick.{◌and◌}
 use Rattle.lists.specs.Order.{up_from}
 use Rattle.table.specs.Limits.{limits}

@@ -1,5 +1,6 @@
 -- Looking up and inserting, over stored mappings.
-use Rattle.std.specs.Prelude.{if◌then◌else◌, ℕ, ◌+◌, ◌-◌, ◌*◌, ◌^◌, ◌<◌, ◌≤◌, Bool, false, ◌≡◌, List, map, ltb, eqb, length, take, get_or}
+use Rattle.std.specs.Prelude.{if◌then◌else◌, ℕ, ◌+◌, ◌-◌, ◌*◌, ◌^◌, ◌<◌, ◌≤◌, Bool, false}
+use Rattle.std.specs.Prelude.{◌≡◌, List, map, ltb, eqb, length, take, get_or}
 use Rattle.std.proofs.Math.Option.{none, some}
 use Rattle.lists.specs.Pick.{◌and◌}
 use Rattle.lists.specs.Order.{All, Rising, prefix_length, first_of, Pairs}
