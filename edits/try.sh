@@ -10,11 +10,11 @@
 # once in its file. If it does not, a line `in:` before it has a text that does, and the first old text behind that one
 # is changed. A line `crate: NAME` has the edit tried in another crate, which stands on this one: its own is still proved.
 #
-# The crates must be proved before (`rt check`); the first edit of a crate takes as long as a check of it, unless
-# `rt dev CRATE` was run too. Edits are tried with `rt dev` in a copy of the repository, one after the other; the
-# repository itself is not touched. For each a line is printed: `refused`; `refused elsewhere`, where no error of the
-# prover is one of what the file names; `accepted`; or `no such text`. Only the first is a pass. The last line is
-# `N passed, M failed`. The prover's words stay in target/edits/CRATE/LABEL.log.
+# The crates must be proved before (`rt check` in each, or `rt all check`), else the first edit of a crate takes as long as
+# its first check. Edits are tried with `rt check` in a copy of the repository, one after the other; the repository itself
+# is not touched. For each a line is printed: `refused`; `refused elsewhere`, where no error of the prover is one of what
+# the file names; `accepted`; or `no such text`. Only the first is a pass. The last line is `N passed, M failed`. The
+# prover's words stay in target/edits/CRATE/LABEL.log.
 set -u
 here=$(cd "$(dirname "$0")" && pwd)
 root=$(dirname "$here")
@@ -66,18 +66,18 @@ try() {
     label=$(basename "$edit" .edit)
     name=$(sed -n 's/^# refused by //p' "$edit" | head -n 1)
     tried=$(sed -n 's/^crate: //p' "$edit" | head -n 1)
-    # an error names a law, or a function by the folder of its proof; a function without one has a line of its own; an
-    # error that only follows from another says `was not admitted`
-    by="^[^ ]*[/+]$name(\+[^/]*)?/[^/ ]*: error: |: error: \`$name\`:|^fn [^ ]*::$name: no proof: .* does not close"
+    # an error names a law, or a function by the folder of its proof; a function with a goal that has no answer has a line
+    # of its own; an error that only follows from another says `was not admitted` or `was rejected`
+    by="^[^ ]*[/+]$name(\+[^/]*)?/[^/ ]*: error: |: error: \`$name\`:|^fn [^ ]*::$name: no proof: .* did not prove "
     rm -rf "${copy:?}/crates/$crate"
     cp -a "$root/crates/$crate" "$copy/crates/$crate"
     local log=$root/target/edits/$crate/$label.log
     if apply "$crate" "$edit"; then
         mkdir -p "$(dirname "$log")"
-        (cd "$copy" && rt dev "${tried:-$crate}") > "$log" 2>&1 < /dev/null || status=$?
+        (cd "$copy/crates/${tried:-$crate}" && rt check) > "$log" 2>&1 < /dev/null || status=$?
         if [ "$status" -eq 0 ]; then said=accepted
         elif [ "$status" -ne 1 ]; then said="status $status"
-        elif [ -n "$name" ] && grep -E "$by" "$log" | grep -qvF 'was not admitted'; then said=refused
+        elif [ -n "$name" ] && grep -E "$by" "$log" | grep -qvE 'was (not admitted|rejected)'; then said=refused
         else said="refused elsewhere"
         fi
     else
@@ -87,7 +87,7 @@ try() {
     echo "$crate/$label: $said, by $name"
 }
 
-cp -a "$root/crates.txt" "$root/crates" "$root/target" "$copy/" || exit 2
+cp -a "$root/crates.txt" "$root/crates" "$copy/" || exit 2
 crates=("${1:-}")
 [ $# -gt 0 ] || mapfile -t crates < <(cd "$here" && ls -d */ | tr -d /)
 for crate in "${crates[@]}"; do
