@@ -34,7 +34,7 @@ CHARMAP
 END CHARMAP
 ";
 
-/// K with every liberty of the grammar: `freeText` of crates/table/specs/TableK.antt, byte for byte.
+/// K with every liberty of the grammar: `free_text` of crates/table/specs/TableK.antt, byte for byte.
 const K_FREE: &[u8] = b"\
     # K, fa\xe7on libre\r\n\
     \r\n\

@@ -1,7 +1,8 @@
 //! The pages and the sources as text: every name and file that README.md and
 //! docs/ cite in backquotes exists, and so does every file that they link to
-//! (docs/CHANGES.md is history and may name what is gone); docs/EDITS.md names
-//! every edit and no other; no line of src/ or specs/ has more than 120 columns.
+//! (docs/CHANGES.md and docs/PORT.md are history and may name what is gone);
+//! docs/EDITS.md names every edit and no other; no line of src/ or specs/ has
+//! more than 120 columns.
 
 use std::collections::HashSet;
 use std::fs;
@@ -13,9 +14,15 @@ const WIDEST: usize = 120;
 /// the first cell of a row is the edit's label.
 const EDITS: &str = "docs/EDITS.md";
 
-/// Names of the kit that no file of the repository holds: the program's axioms and the kit itself.
-const FOREIGN: [&str; 5] =
-    ["__xpg_strerror_r", "rattle_errno", "rattle_open_to_read", "rattle_set_errno", "rattle-kit-5b-plain"];
+/// Pages of what was: they may name what is gone.
+const HISTORY: [&str; 2] = ["docs/CHANGES.md", "docs/PORT.md"];
+
+/// The scripts that turned the sources from the older kit's spelling name what is gone, so they vouch for no name.
+const PORT: &str = "tools/port/";
+
+/// Names of the kit that no file of the repository holds: system calls that the program rests on, the kit itself and the
+/// one before it.
+const FOREIGN: [&str; 5] = ["__xpg_strerror_r", "fcntl", "getdents64", "rattle-kit-13f", "rattle-kit-5b-plain"];
 
 pub fn root() -> PathBuf {
     Path::new(env!("CARGO_MANIFEST_DIR")).join("..")
@@ -29,7 +36,7 @@ fn walk(dir: &Path, found: &mut Vec<PathBuf>) {
         let path = entry.path();
         let name = entry.file_name().to_string_lossy().into_owned();
         if path.is_dir() {
-            if name != "target" && name != ".git" {
+            if name != "target" && name != "out" && name != ".git" {
                 walk(&path, found);
             }
         } else {
@@ -50,7 +57,7 @@ pub fn files() -> Vec<String> {
 }
 
 fn parts(text: &str) -> impl Iterator<Item = &str> {
-    text.split(|c: char| c.is_whitespace() || "()[]{},;.:\"'`=|/\\<>!&*+⌜⌝λ".contains(c)).filter(|w| !w.is_empty())
+    text.split(|c: char| c.is_whitespace() || "()[]{},;.:\"'`=|/\\<>!&*+◌λ".contains(c)).filter(|w| !w.is_empty())
 }
 
 /// The words of all sources, without the comments of code and proofs.
@@ -58,7 +65,7 @@ fn words(files: &[String]) -> HashSet<String> {
     let mut all = HashSet::new();
     for file in files {
         let page = file.ends_with(".md");
-        if page || file.contains("Cargo.lock") {
+        if page || file.contains("Cargo.lock") || file.starts_with(PORT) {
             continue;
         }
         let comment = match file.rsplit('.').next() {
@@ -137,7 +144,7 @@ fn missing(span: &str, words: &HashSet<String>, files: &[String]) -> Option<Stri
     plain
         .split("::")
         .flat_map(|w| w.split('.'))
-        .map(|w| w.trim_end_matches("()"))
+        .map(|w| w.trim_end_matches("()").trim_end_matches('\''))
         .find(|w| is_name(w) && !words.contains(*w) && !FOREIGN.contains(w))
         .map(String::from)
 }
@@ -199,7 +206,7 @@ pub fn names() -> (usize, Vec<String>) {
     let mut cited = 0;
     for file in &files {
         let page = file == "README.md" || (file.starts_with("docs/") && file.ends_with(".md"));
-        if !page || file == "docs/CHANGES.md" {
+        if !page || HISTORY.contains(&file.as_str()) {
             continue;
         }
         let text = fs::read_to_string(root().join(file)).unwrap_or_default();
