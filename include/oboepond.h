@@ -5,7 +5,7 @@
  *
  * To build: the library is for Linux on x86-64, the one target that the kit builds for, and uses
  * nothing but memcpy and memset of the C library:
- *   rt staticlib cabi
+ *   tools/build.sh cabi
  *   cc -I include program.c target/staticlib/libcabi.a -o program
  *
  * No function keeps anything between calls (what a text in pieces needs is kept by the caller, in

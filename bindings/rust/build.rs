@@ -16,7 +16,7 @@ fn main() {
     println!("cargo:rerun-if-changed={}", library.display());
     if !library.exists() {
         panic!(
-            "no {}: build it with `rt staticlib cabi`, or set OBOEPOND_LIB to the folder that has it",
+            "no {}: build it with `tools/build.sh cabi`, or set OBOEPOND_LIB to the folder that has it",
             library.display()
         );
     }
