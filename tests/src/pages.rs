@@ -22,7 +22,7 @@ const PORT: &str = "tools/port/";
 
 /// Names of the kit that no file of the repository holds: system calls that the program rests on, the kit itself and the
 /// one before it.
-const FOREIGN: [&str; 5] = ["__xpg_strerror_r", "fcntl", "getdents64", "rattle-kit-13f", "rattle-kit-5b-plain"];
+const FOREIGN: [&str; 6] = ["__xpg_strerror_r", "fcntl", "getdents64", "libc", "rattle-kit-13f", "rattle-kit-5b-plain"];
 
 pub fn root() -> PathBuf {
     Path::new(env!("CARGO_MANIFEST_DIR")).join("..")
