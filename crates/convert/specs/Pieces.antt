@@ -1,6 +1,7 @@
 -- A conversion in pieces (document 02, request 4): what is kept between calls, one call, the close.
 -- Contents: whatever the step: one call on a piece (`piece_on`); in a scheme: the state (`step_in`), the mark, a call
--- and the close (`piece_in`, `close_in`); what 42 refuses (`kept_fits`); on any memory (`piece_tested`, `close_tested`).
+-- and the close (`piece_in`, `close_in`); what 42 refuses (`kept_fits`); on any memory (`piece_tested`,
+-- `close_tested`).
 -- Cases: proofs/PieceCases.antt
 use Rattle.std.specs.Prelude.{if◌then◌else◌, ℕ, zero, suc, ◌-◌, List, [], ◌∷◌, ◌++◌}
 use Rattle.std.specs.Prelude.{Bool, true, false, leb, ltb, eqb, length, drop}
