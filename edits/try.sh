@@ -62,13 +62,16 @@ apply() {
 
 # try CRATE EDIT
 try() {
-    local crate=$1 edit=$2 label name tried by said status=0
+    local crate=$1 edit=$2 label name tried folder by idle said status=0
     label=$(basename "$edit" .edit)
     name=$(sed -n 's/^# refused by //p' "$edit" | head -n 1)
     tried=$(sed -n 's/^crate: //p' "$edit" | head -n 1)
-    # an error names a law, or a function by the folder of its proof; a function with a goal that has no answer has a line
-    # of its own; an error that only follows from another says `was not admitted` or `was rejected`
-    by="^[^ ]*[/+]$name(\+[^/]*)?/[^/ ]*: error: |: error: \`$name\`:|^fn [^ ]*::$name: no proof: .* did not prove "
+    # an error names a law, or a function by the folder of its proof (of functions that call one another `+F_G`); a function
+    # with a goal that has no answer has a line of its own. An error that only follows from another (`was not admitted`),
+    # or only says that a name is gone, counts for nothing.
+    folder="(/$name|/\+([^/ ]*_)?$name(_[^/ ]*)?)"
+    by="^[^ ]*$folder/[^/ ]*: error: |: error: \`$name\`:|^fn [^ ]*::$name: no proof: .* did not prove "
+    idle='was (not admitted|rejected)|that can be named from here|has no field|is not in scope'
     rm -rf "${copy:?}/crates/$crate"
     cp -a "$root/crates/$crate" "$copy/crates/$crate"
     local log=$root/target/edits/$crate/$label.log
@@ -77,7 +80,7 @@ try() {
         (cd "$copy/crates/${tried:-$crate}" && rt check) > "$log" 2>&1 < /dev/null || status=$?
         if [ "$status" -eq 0 ]; then said=accepted
         elif [ "$status" -ne 1 ]; then said="status $status"
-        elif [ -n "$name" ] && grep -E "$by" "$log" | grep -qvE 'was (not admitted|rejected)'; then said=refused
+        elif [ -n "$name" ] && grep -E "$by" "$log" | grep -qvE "$idle"; then said=refused
         else said="refused elsewhere"
         fi
     else

@@ -1,22 +1,15 @@
-#![tactic(auto)]
 // The exported functions: each is that of the crate `cabi`, with its promises, under its name for C.
-ghost use Rattle.std.specs.Prelude.{if◌then◌else◌, ◌≡◌, [], ◌∷◌, ◌≤◌, length};
+#![tactic(auto)]
+
+ghost use Rattle.std.specs.Prelude.{◌≡◌, length};
 ghost use Rattle.table.specs.Limits.{limits};
 ghost use Rattle.table.specs.Slices.{slices};
-ghost use Rattle.table.specs.Numbers.{answer_number};
 ghost use Rattle.table.specs.Load.{given_number, loaded_by, given, left_in};
-ghost use Rattle.convert.specs.Run.{end_number, end_length};
-ghost use Rattle.audit.specs.Audit.{audited_of, space_after, ending_number};
-ghost use Rattle.cabi.specs.Exported.{record_in, record_numbers, if_short, with_numbers, loaded_numbers, check_number};
-ghost use Rattle.cabi.specs.Exported.{scheme_in, answered, to_exported, from_exported};
-ghost use Rattle.cabi.specs.Exported.{audited_numbers, audit_exported};
-ghost use Rattle.std.specs.Prelude.{◌≡◌, false, [], ◌∷◌, ◌≤◌, length};
-ghost use Rattle.convert.specs.Pieces.{state_at, place_at, piece_number, piece_length};
-ghost use Rattle.convert.specs.loops.Carried.{is_refused, FewBytes};
 ghost use Rattle.convert.specs.declared.pieces.Way.TheVariants.{ToUnicode, FromUnicode};
-ghost use Rattle.cabi.specs.Exported.{with_numbers, settings_in, stands_alone, are_kept, standing_in, kept_in};
-ghost use Rattle.cabi.specs.Exported.{standing_number, standing_length, kept_numbers, kept_after};
-ghost use Rattle.cabi.specs.Exported.{piece_answered, piece_exported, close_exported};
+ghost use Rattle.audit.specs.Audit.{audited_of, space_after, ending_number};
+ghost use Rattle.cabi.specs.Exported.{record_numbers, loaded_numbers, audited_numbers, check_number, settings_in};
+ghost use Rattle.cabi.specs.Exported.{if_short, with_numbers, answered, to_exported, from_exported};
+ghost use Rattle.cabi.specs.Exported.{audit_exported, piece_answered, piece_exported, close_exported};
 
 // Loads a table's text into lent memory.
 #[unsafe(no_mangle)]

@@ -1,4 +1,4 @@
--- Worked examples under one statement, by computing; the program unicode_vectors runs the whole list.
+-- Worked examples under one statement, by computing; the program utf_vectors runs the whole list.
 use mathlib.Core.Path.{◌≡◌, refl}
 use Prim.Native.Nat.{ℕ}
 use mathlib.Core.List.{List, [], ◌∷◌}
