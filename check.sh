@@ -51,7 +51,7 @@ gate() {
     said=$(mktemp)
     rt ci 2>&1 | tee "$said"
     status=${PIPESTATUS[0]}
-    if [ "$status" -eq 0 ] && ! grep '^rt: ok' "$said" | grep -qvE ', [0-9]+ bad'; then
+    if [ "$status" -eq 0 ] && ! grep '^rt: ok' "$said" | tail -n 1 | grep -qvE ', [0-9]+ bad'; then
         echo "check.sh: a must-fail edit is bad, or rt ci did not say how many are"
         status=1
     fi

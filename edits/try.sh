@@ -10,11 +10,11 @@
 # once in its file. If it does not, a line `in:` before it has a text that does, and the first old text behind that one
 # is changed. A line `crate: NAME` has the edit tried in another crate, which stands on this one: its own is still proved.
 #
-# The crates must be proved before (`rt check` in each, or `rt all check`), else the first edit of a crate takes as long as
-# its first check. Edits are tried with `rt check` in a copy of the repository, one after the other; the repository itself
-# is not touched. For each a line is printed: `refused`; `refused elsewhere`, where no error of the prover is one of what
-# the file names; `accepted`; or `no such text`. Only the first is a pass. The last line is `N passed, M failed`. The
-# prover's words stay in target/edits/CRATE/LABEL.log.
+# A crate that is not proved as it stands fails, and none of its edits is tried. Prove the crates before (`rt check` in
+# each, or `rt all check`), else this takes as long as their first check. Edits are tried with `rt check` in a copy of the
+# repository, one after the other; the repository itself is not touched. For each a line is printed: `refused`; `refused
+# elsewhere`, where no error of the prover is one of what the file names; `accepted`; or `no such text`. Only the first
+# is a pass. The last line is `N passed, M failed`. The prover's words stay in target/edits/CRATE/LABEL.log.
 set -u
 here=$(cd "$(dirname "$0")" && pwd)
 root=$(dirname "$here")
@@ -62,15 +62,16 @@ apply() {
 
 # try CRATE EDIT
 try() {
-    local crate=$1 edit=$2 label name tried folder by idle said status=0
+    local crate=$1 edit=$2 label name tried by idle said status=0
     label=$(basename "$edit" .edit)
     name=$(sed -n 's/^# refused by //p' "$edit" | head -n 1)
     tried=$(sed -n 's/^crate: //p' "$edit" | head -n 1)
-    # an error names a law, or a function by the folder of its proof (of functions that call one another `+F_G`); a function
-    # with a goal that has no answer has a line of its own. An error that only follows from another (`was not admitted`),
-    # or only says that a name is gone, counts for nothing.
-    folder="(/$name|/\+([^/ ]*_)?$name(_[^/ ]*)?)"
-    by="^[^ ]*$folder/[^/ ]*: error: |: error: \`$name\`:|^fn [^ ]*::$name: no proof: .* did not prove "
+    # an error names a law; or an answer, in the folder of a function's proof (of functions that call one another `+F_G`,
+    # where the answer's name begins with the function's); a function with a goal that has no answer has a line of its own.
+    # An error that names nothing (a text that cannot be read), only follows from another (`was not admitted`), or only
+    # says that a name is gone, counts for nothing.
+    by="^[^ ]*/$name/[^/ ]*: error: \`|^[^ ]*/\+[^/ ]*/[^/ ]*: error: \`$name-|: error: \`$name\`:"
+    by="$by|^fn [^ ]*::$name: no proof: .* did not prove "
     idle='was (not admitted|rejected)|that can be named from here|has no field|is not in scope'
     rm -rf "${copy:?}/crates/$crate"
     cp -a "$root/crates/$crate" "$copy/crates/$crate"
@@ -94,6 +95,11 @@ cp -a "$root/crates.txt" "$root/crates" "$copy/" || exit 2
 crates=("${1:-}")
 [ $# -gt 0 ] || mapfile -t crates < <(cd "$here" && ls -d */ | tr -d /)
 for crate in "${crates[@]}"; do
+    if ! (cd "$copy/crates/$crate" && rt check) > "$copy/said" 2>&1 < /dev/null; then
+        echo "$crate is not proved as it stands, so none of its edits was tried"
+        failed=$((failed + 1))
+        continue
+    fi
     if [ $# -gt 1 ]; then
         for label in "${@:2}"; do try "$crate" "$here/$crate/$label.edit"; done
     else

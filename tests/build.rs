@@ -9,7 +9,7 @@ fn main() {
     let library = folder.join("liblookups.a");
     println!("cargo:rerun-if-changed={}", library.display());
     if !library.exists() {
-        panic!("no {}: build it with `rt staticlib lookups`", library.display());
+        panic!("no {}: build it with `tools/build.sh lookups`", library.display());
     }
     println!("cargo:rustc-link-search=native={}", folder.display());
     println!("cargo:rustc-link-lib=static=lookups");
