@@ -15,7 +15,7 @@ const WIDEST: usize = 120;
 const EDITS: &str = "docs/EDITS.md";
 
 /// Pages of what was: they may name what is gone.
-const HISTORY: [&str; 2] = ["docs/CHANGES.md", "docs/PORT.md"];
+const HISTORY: [&str; 3] = ["docs/CHANGES.md", "docs/PORT.md", "docs/DESIGN-PASS.md"];
 
 /// The scripts that turned the sources from the older kit's spelling name what is gone, so they vouch for no name.
 const PORT: &str = "tools/port/";

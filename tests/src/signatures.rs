@@ -308,16 +308,21 @@ fn numbers(texts: &Texts) -> Vec<Outcome> {
     same("header and crate,", &header_numbers(&texts.header), &crate_numbers())
 }
 
-/// The constants of the exported functions that are numbers stand in the header.
+/// The constants of the exported functions that are numbers, and the numbers of their enum's cases, stand in the header.
 fn rattle_numbers(texts: &Texts) -> Vec<Outcome> {
     let header = header_numbers(&texts.header);
     let code = without(&texts.rattle, "//", "\n");
     let constants = code.match_indices("const ").filter_map(|(at, mark)| {
         let (name, rest) = code[at + mark.len()..].split_once(':')?;
         let number = rest.split_once(';')?.0.split_once('=')?.1;
-        Some((name, number.trim().parse().ok()?))
+        Some((name.to_string(), number.trim().parse().ok()?))
     });
-    let constants: BTreeMap<String, u64> = constants.map(|(name, number)| (name.into(), number)).collect();
+    let cases = code.lines().filter_map(|line| {
+        let (name, number) = line.trim().strip_suffix(',')?.split_once(" = ")?;
+        let word = name.chars().all(char::is_alphanumeric) && name.starts_with(char::is_uppercase);
+        Some((word.then(|| as_macro(format_args!("{name}")))?, number.parse().ok()?))
+    });
+    let constants: BTreeMap<String, u64> = constants.chain(cases).collect();
     let wanted = constants.keys().filter_map(|name| Some((name.clone(), *header.get(name)?))).collect();
     let mut outcomes = same("Rattle and header,", &constants, &wanted);
     let known = ["SHORT", "NO_SCHEME", "RECORD", "KEPT"].iter().all(|name| constants.contains_key(*name));

@@ -144,13 +144,13 @@ const WRONG: &[Wrong] = &[
         "#define OBOEPOND_NO_LINE 10",
         &["header and crate, NO_FORM", "header and crate, NO_LINE"],
     ),
-    ("a number of Rattle", RATTLE, "const SHORT: u32 = 70", "const SHORT: u32 = 71", &["Rattle and header, SHORT"]),
+    ("a number of Rattle", RATTLE, " Short = 70", " Short = 71", &["Rattle and header, SHORT"]),
     ("a size of Rattle", RATTLE, "const RECORD: usize = 7", "const RECORD: usize = 8", &["Rattle and header, RECORD"]),
     (
         "a constant of Rattle under another name",
         RATTLE,
-        "const NO_SCHEME: u32 = 71",
-        "const NONE: u32 = 71",
+        " NoScheme = 71",
+        " None = 71",
         &["Rattle and header, NONE", "Rattle's numbers"],
     ),
     (

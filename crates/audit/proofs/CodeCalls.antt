@@ -1,8 +1,8 @@
 -- Calls on a table, one after the other: all that demand 3 claims of them, from the paging theorem.
 use Prim.Native.Nat.{ℕ}
 use native.Mathlib.Omega.{arith}
-use mathlib.Core.Path.{◌≡◌, sym, ap, ◌∙◌, subst}
-use mathlib.Core.Bool.{Bool, true, false}
+use mathlib.Core.Path.{◌≡◌, sym, ap, ◌∙◌, subst, refl}
+use mathlib.Core.Bool.{Bool, true}
 use mathlib.Core.Logic.{◌⊎◌, inl, inr, ◌↔◌}
 use mathlib.Core.List.{List, [], ◌∷◌, map}
 use lib.Dec.{eqb}
@@ -24,7 +24,6 @@ use Rattle.table.specs.Rules.{Keeps}
 use Rattle.table.specs.Stored.{padded}
 use Rattle.table.specs.declared.states.Code.{Code}
 use Rattle.table.proofs.Packing.{unpacked-packed, packed-padded}
-use Rattle.table.proofs.Cuts.{no-ends-zero}
 use Rattle.table.proofs.KeptSizes.{kept-sizes}
 use Rattle.table.proofs.FormTested.{code-length}
 use Rattle.table.proofs.CodeList.{CompleteCode, codes-are-codes, codes-whole, rising-codes}
@@ -33,6 +32,8 @@ use Rattle.audit.specs.Audit.{Finding, Answer, ending_number, complete_codes, pl
 use Rattle.audit.specs.Demand.{beginning, AuditCall, calls_of, list_up_to, Claims}
 use Rattle.audit.proofs.CodePages.{codes-lawful, list-up-to}
 use Rattle.lists.specs.Strings.{up_to}
+use Rattle.table.specs.declared.states.EndKind.{EndKind}
+use Rattle.std.specs.Prelude.{Option, Some, None, is_some}
 
 module _ (t : Table) (fallback : Bool) where
   abbrev codes : List (List ℕ)
@@ -42,10 +43,14 @@ module _ (t : Table) (fallback : Bool) where
   codes_in = pageable_codes t fallback
 
   complete : (s : List ℕ) → In s codes → CompleteCode (steps_of t) 4 0 s
-  complete s i = All-In⁻ (CompleteCode (steps_of t) 4 0) s codes (codes-are-codes (steps_of t) (no-ends-zero t.rows) 4 0) i
+  complete s i = All-In⁻ (CompleteCode (steps_of t) 4 0) s codes (codes-are-codes (steps_of t) 4 0) i
 
-  is-code : (s : List ℕ) → (end_kind (steps_of t) 0 s ≡ 0 → ⊥) → is_code (steps_of t) 0 s ≡ true
-  is-code s h = pick_no (eqb (end_kind (steps_of t) 0 s) 0) false true (ne_eqb (end_kind (steps_of t) 0 s) 0 h)
+  is-code : (s : List ℕ) → (end_kind (steps_of t) 0 s ≡ None → ⊥) → is_code (steps_of t) 0 s ≡ true
+  is-code s h = go (end_kind (steps_of t) 0 s) h
+    where
+      go : (o : Option EndKind) → (o ≡ None → ⊥) → is_some o ≡ true
+      go None h = absurd (h refl)
+      go (Some kind) h = refl
 
   -- the beginning, or a complete code
   abbrev Position : List ℕ → Type 0

@@ -6,7 +6,6 @@ use mathlib.Core.Bool.{Bool, true, false}
 use mathlib.Core.Logic.{◌⊎◌, inl, inr}
 use mathlib.Core.Option.{some}
 use mathlib.Core.List.{List}
-use lib.Dec.{eqb}
 use lib.ListN.{length}
 use Rattle.lists.specs.Pick.{pick}
 use Rattle.lists.specs.Order.{All, In}
@@ -28,8 +27,8 @@ use Rattle.table.specs.declared.states.Code.{Code}
 use Rattle.table.specs.declared.valid.Record.{Record}
 use Rattle.table.proofs.Packing.{unpacked-packed}
 use Rattle.table.proofs.CodeList.{Bytes, codes-bytes}
-use Rattle.audit.specs.Audit.{Finding, Answer, Back, unread, unwritten, written, complete_codes, back_of, cause_by, cause_of, finding_of, pageable_codes, refused, looked, is_position, audit_on, audit_tested}
-use Rattle.audit.specs.declared.Ending.TheVariants.{Looked, BadPosition, BadTable}
+use Rattle.audit.specs.Audit.{Finding, Answer, Back, unread, unwritten, written, complete_codes, back_of, cause_by, cause_of, finding_of, pageable_codes, refused, looked, is_position, audit_on, audit_tested, is_unassigned}
+use Rattle.audit.specs.Audit.{Looked, BadPosition, BadTable}
 use Rattle.audit.proofs.CodePages.{codes-lawful}
 use Rattle.audit.proofs.Tests.{position-packed}
 
@@ -49,7 +48,7 @@ few-causes c u unwritten = pick-case (λ (n : ℕ). n ≤ 4) u 1 4 (λ k. omega 
 module _ (t : Table) (fallback : Bool) where
   cause-most : (c : List ℕ) → cause_of t fallback c ≤ 4
   unfolding cause_of
-  cause-most c = few-causes c (eqb (end_kind (steps_of t) 0 c) 3) (back_of t fallback (reader c t.lines))
+  cause-most c = few-causes c (is_unassigned (end_kind (steps_of t) 0 c)) (back_of t fallback (reader c t.lines))
 
   is_found : (c : List ℕ) (w : ℕ) (f : Finding) → Bytes 4 c → w ≤ 4 → finding_of c w ≡ some f → Found f
   is_found c zero f b m e = let z : ◌≡◌ {A = ℕ} 0 1 = cc in absurd (omega arith)

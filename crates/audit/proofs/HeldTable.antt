@@ -4,7 +4,6 @@ use mathlib.Core.Path.{◌≡◌, refl, ap, ◌∙◌}
 use mathlib.Core.Bool.{Bool, true}
 use mathlib.Core.Option.{Option, none, some}
 use mathlib.Core.List.{List, []}
-use lib.Dec.{eqb}
 use Rattle.lists.specs.Pick.{pick}
 use Rattle.lists.specs.Paging.{page_from}
 use Rattle.lists.proofs.Cases.{pick_yes}
@@ -22,8 +21,7 @@ use Rattle.table.proofs.ValidLaws.{form-valid}
 use Rattle.table.specs.Forms.{SameTable}
 use Rattle.table.proofs.InMemory.{SameTable-table_in, same-reader, same_writer}
 use Rattle.convert.proofs.SameLines.{writer⇒writes}
-use Rattle.audit.specs.Audit.{back_of, back_by, cause_by, cause_of, finding_of, next_bytes, pageable_codes, refused, looked, is_position, audit_on, audit_tested}
-use Rattle.audit.specs.declared.Ending.TheVariants.{BadPosition, BadTable}
+use Rattle.audit.specs.Audit.{back_of, back_by, cause_by, cause_of, finding_of, next_bytes, pageable_codes, refused, looked, is_position, audit_on, audit_tested, is_unassigned, BadPosition, BadTable}
 use Rattle.lists.specs.Strings.{before}
 
 -- two tables with the same rows and, as members, the same lines
@@ -34,8 +32,8 @@ module _ (t u : Table) (s : SameTable u t) (apart : t9 t.lines ≡ true) where
   pub cause-same : (fallback : Bool) (c : List ℕ) → cause_of u fallback c ≡ cause_of t fallback c
   unfolding cause_of
   cause-same fallback c =
-      ap (λ (o : Option Line). cause_by c (eqb (end_kind (steps_of u) 0 c) 3) (back_of u fallback o)) (same-reader t u s apart c)
-      ∙ (λ i. cause_by c (eqb (end_kind (steps-same i) 0 c) 3) (back-same (reader c t.lines) i))
+      ap (λ (o : Option Line). cause_by c (is_unassigned (end_kind (steps_of u) 0 c)) (back_of u fallback o)) (same-reader t u s apart c)
+      ∙ (λ i. cause_by c (is_unassigned (end_kind (steps-same i) 0 c)) (back-same (reader c t.lines) i))
     where
       back-same : (o : Option Line) → back_of u fallback o ≡ back_of t fallback o
       back-same none = refl

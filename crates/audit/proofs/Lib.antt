@@ -4,7 +4,6 @@ pub mod HeldTable
 pub mod CodeCalls
 pub mod LoadedTable
 pub mod Starred
-pub mod ValidMemory
 pub mod FoundCauses
 pub mod Steps
 pub mod Tests

@@ -13,7 +13,7 @@ use Rattle.table.specs.Meaning.{Table}
 use Rattle.table.specs.Rules.{Keeps}
 use Rattle.table.specs.Slices.{Slices}
 use Rattle.table.specs.Memory.{Form, Proper}
-use Rattle.table.specs.Load.{read, accepted, loaded_by, given, left_in}
+use Rattle.table.specs.Load.{read, accepted, loaded_by, given, left_in, record_handed}
 use Rattle.table.specs.declared.states.Code.{Code}
 use Rattle.table.specs.declared.valid.Record.{Record}
 use Rattle.table.proofs.LoadedForm.{LoadedForm, loaded-form}
@@ -58,11 +58,11 @@ module _ (text : List ℕ) (old : Slices) (t : Table) (e : given limits text old
 
   -- an audit call there is the call on the text's table
   pub audit-loaded : (fallback : Bool) (pos : Code) (allowance space : ℕ)
-      → audit_in (loaded_by (given limits text old)).table (left_in limits (given limits text old) old) fallback pos allowance space ≡ audit_on t fallback pos allowance space
+      → audit_in (record_handed (loaded_by (given limits text old))) (left_in limits (given limits text old) old) fallback pos allowance space ≡ audit_on t fallback pos allowance space
   audit-loaded fallback pos allowance space =
-      audit_tested-audit_on t made.proper made.keeps (loaded_by (given limits text old)).table _ made.form fallback pos allowance space
+      audit_tested-audit_on t made.proper made.keeps (record_handed (loaded_by (given limits text old))) _ made.form fallback pos allowance space
 
   pub loaded-claims : (fallback : Bool) {F : Type 0} (number : Finding → F) (cs : List (AuditCall F))
-      → InTurn (loaded_by (given limits text old)).table (left_in limits (given limits text old) old) fallback cs → All (Answered number) cs → Claims t fallback number cs
+      → InTurn (record_handed (loaded_by (given limits text old))) (left_in limits (given limits text old) old) fallback cs → All (Answered number) cs → Claims t fallback number cs
   loaded-claims fallback {F} number cs =
-      held-claims t made.proper made.keeps (loaded_by (given limits text old)).table (left_in limits (given limits text old) old) made.form fallback number cs
+      held-claims t made.proper made.keeps (record_handed (loaded_by (given limits text old))) (left_in limits (given limits text old) old) made.form fallback number cs

@@ -33,7 +33,7 @@ use Rattle.audit.proofs.LoadedTable.{audit-loaded}
 abbrev ask_table : Table → ℕ → List ℕ → Question → Seen
 ask_table t n out (to_unicode e settings input) = converts (to_run e t settings input n) out
 ask_table t n out (from_unicode e settings input) = converts (from_run e t settings input n) out
-ask_table t n out (audit fallback position allowance) = calls (audit_on t fallback (code_of position) allowance n) out
+ask_table t n out (audit fallback position allowance) = calls (code_of position) (audit_on t fallback (code_of position) allowance n) out
 
 -- THE LOAD: K's text in slices that are long enough
 k-fits : length k_text ≤ limits.text
@@ -66,7 +66,7 @@ module _ (old : Slices) (e : given limits k_text old ≡ read (accepted table_k)
   asked out (to_unicode scheme settings input) = ap (λ (r : Run). converts r out) (to-loaded k_text old table_k e scheme settings input (length out))
   asked out (from_unicode scheme settings input) = ap (λ (r : Run). converts r out) (from-loaded k_text old table_k e scheme settings input (length out))
   asked out (audit fallback position allowance) =
-      ap (λ (a : Answer). calls a out) (audit-loaded k_text old table_k e fallback (code_of position) allowance (length out))
+      ap (λ (a : Answer). calls (code_of position) a out) (audit-loaded k_text old table_k e fallback (code_of position) allowance (length out))
 
   holds : (c : Case) → computed c ≡ expected c → Holds old c
   holds c k out n = asked out c.question ∙ ap (λ (m : ℕ). ask_table table_k m out c.question) n ∙ (λ i. k i out)

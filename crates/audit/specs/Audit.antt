@@ -4,8 +4,10 @@
 -- call on a table and on lent memory (`audit_tested`); entries as numbers, and what a call hands back and leaves in its
 -- space.
 -- Cases: specs/Cases.antt
-use Rattle.std.specs.Prelude.{if◌then◌else◌, ℕ, zero, suc, ◌+◌, ◌*◌, ◌/◌, ◌%◌, Bool}
-use Rattle.std.specs.Prelude.{false, List, [], ◌++◌, map, eqb, length, drop}
+use Rattle.std.specs.Prelude.{if◌then◌else◌, ℕ, zero, suc, ◌+◌, ◌*◌, ◌/◌, ◌%◌, Bool, true}
+use Rattle.std.specs.Prelude.{false, List, [], ◌++◌, map, eqb, length, drop, Option as Optional, Some, None}
+use Rattle.std.specs.Prelude.{Result, Ok, Err}
+use Rattle.std.specs.Result.{result_unwrap_or}
 use Rattle.std.proofs.Math.Option.{Option, none, some}
 use Rattle.lists.specs.Pick.{◌and◌}
 use Rattle.lists.specs.Paging.{Pageable, Page, map_position, stopped_at, entries_for, page_from}
@@ -19,14 +21,16 @@ use Rattle.table.specs.Slices.{Slices}
 use Rattle.table.specs.Memory.{table_in}
 use Rattle.table.specs.Valid.{valid}
 use Rattle.table.specs.declared.states.Code.{Code}
-use Rattle.table.specs.declared.codes.Next.{Next}
-use Rattle.table.specs.declared.codes.Next.TheVariants.{Found, Nothing}
 use Rattle.table.specs.declared.valid.Record.{Record}
 use Rattle.convert.specs.Step.{Written, code, subchar1, nothing, writes}
-use Rattle.audit.specs.declared.Ending.{Ending}
-use Rattle.audit.specs.declared.Ending.TheVariants.{Looked, BadPosition, BadTable}
+use Rattle.audit.specs.declared.Cause.{Cause}
+use Rattle.audit.specs.declared.Cause.TheVariants as cause
+use Rattle.audit.specs.declared.AuditRefusal.{AuditRefusal}
+use Rattle.audit.specs.declared.AuditRefusal.TheVariants as refusal
 use Rattle.audit.specs.declared.Audited.{Audited}
 use Rattle.audit.specs.declared.AuditEntry.{AuditEntry}
+use Rattle.table.specs.declared.states.EndKind.{EndKind}
+use Rattle.table.specs.declared.states.EndKind.TheVariants.{Assigned, AnyPoint, Unassigned}
 
 -- every complete code, in byte order
 abbrev pub complete_codes : Table → List (List ℕ)
@@ -55,9 +59,27 @@ cause_by c u (written d) = if same d c then 0 else if u then 1 else 3
 cause_by c u unread = if u then 1 else 2
 cause_by c u unwritten = if u then 1 else 4
 
+-- the numbers of the causes, and 0 for none
+abbrev pub number_of : Cause → ℕ
+number_of cause.Unassigned = 1
+number_of cause.NotRead = 2
+number_of cause.OtherCode = 3
+number_of cause.NotWritten = 4
+
+abbrev pub cause_number : Optional Cause → ℕ
+cause_number None = 0
+cause_number (Some w) = number_of w
+
+-- a code that ends by `u`
+abbrev pub is_unassigned : Optional EndKind → Bool
+is_unassigned (Some Unassigned) = true
+is_unassigned (Some Assigned) = false
+is_unassigned (Some AnyPoint) = false
+is_unassigned None = false
+
 -- the cause of a complete code, under a fallback setting
 unfoldable pub cause_of : Table → Bool → List ℕ → ℕ
-cause_of t fallback c = cause_by c (eqb (end_kind (steps_of t) 0 c) 3) (back_of t fallback (reader c t.lines))
+cause_of t fallback c = cause_by c (is_unassigned (end_kind (steps_of t) 0 c)) (back_of t fallback (reader c t.lines))
 
 -- a code that does not round-trip, with its cause
 pub record Finding : Type 0 where
@@ -68,9 +90,9 @@ abbrev pub finding_of : List ℕ → ℕ → Option Finding
 finding_of c zero = none
 finding_of c (suc w) = some (record { code = c; cause = suc w })
 
-abbrev pub next_bytes : Next → Option (List ℕ)
-next_bytes (Found c) = some (bytes_of c)
-next_bytes Nothing = none
+abbrev pub next_bytes : Optional Code → Option (List ℕ)
+next_bytes (Some c) = some (bytes_of c)
+next_bytes None = none
 
 -- the complete codes as a list to page through; a position is a byte string, that of no bytes is the beginning
 unfoldable pub pageable_codes : Table → Bool → Pageable (List ℕ) Finding (List ℕ)
@@ -86,6 +108,12 @@ pageable_codes t fallback =
 -- the plain list: every complete code in byte order that does not round-trip, with its cause
 unfoldable pub plain_list : Table → Bool → List Finding
 plain_list t fallback = entries_for (pageable_codes t fallback) (complete_codes t)
+
+-- how a call ends: codes were looked at, or it is refused
+pub data Ending : Type 0 where
+  Looked : Ending
+  BadPosition : Ending
+  BadTable : Ending
 
 -- document 01's number for each ending
 abbrev pub ending_number : Ending → ℕ
@@ -143,16 +171,48 @@ unfoldable pub entry_in : ℕ → AuditEntry
 entry_in n =
     record { code = record { bits = n % entry_length_unit; len = n / entry_length_unit % 256 }; cause = n / cause_unit }
 
--- an answer as the function hands it back, and the lent space afterwards: what is not used keeps its values
-abbrev pub audited_of : Answer → Audited
-audited_of a =
+-- a page as the function hands it back
+abbrev pub page_handed : Page Finding Code → Audited
+page_handed p =
     record {
-      ending = a.ending;
-      written = length a.page.entries;
-      position = a.page.position;
-      finished = a.page.finished;
-      count = a.page.count;
+      written = length p.entries;
+      position = p.position;
+      finished = p.finished;
+      count = p.count;
     }
 
+-- an answer as the function hands it back: a page, or why the call is refused
+abbrev pub handed_as : Ending → Audited → Result Audited AuditRefusal
+handed_as Looked d = Ok d
+handed_as BadPosition d = Err refusal.BadPosition
+handed_as BadTable d = Err refusal.BadTable
+
+abbrev pub audited_of : Answer → Result Audited AuditRefusal
+audited_of a = handed_as a.ending (page_handed a.page)
+
+-- how the call ended, by what it handed back
+abbrev pub ending_refused : AuditRefusal → Ending
+ending_refused refusal.BadPosition = BadPosition
+ending_refused refusal.BadTable = BadTable
+
+abbrev pub ending_of : Result Audited AuditRefusal → Ending
+ending_of (Ok d) = Looked
+ending_of (Err e) = ending_refused e
+
+-- why a call that ended so is refused, if it is; and back
+abbrev pub refusal_by : Ending → Optional AuditRefusal
+refusal_by Looked = None
+refusal_by BadPosition = Some refusal.BadPosition
+refusal_by BadTable = Some refusal.BadTable
+
+abbrev pub ending_by : Optional AuditRefusal → Ending
+ending_by None = Looked
+ending_by (Some e) = ending_refused e
+
+-- what a call at a position hands on: of a refusal no entries, count 0, the position as it came, not finished
+abbrev pub handed_on : Code → Result Audited AuditRefusal → Audited
+handed_on pos r = result_unwrap_or r (record { written = 0; position = pos; finished = false; count = 0 })
+
+-- the lent space afterwards: what is not used keeps its values
 abbrev pub space_after : Answer → List ℕ → List ℕ
 space_after a old = map entry_number a.page.entries ++ drop (length a.page.entries) old

@@ -3,24 +3,24 @@
 -- answer, in the words of the functions' own promises, whatever the lent slices held before.
 -- Contents: a question and its reply; what a caller sees; the cases, in their order; `Starred`. Proved in
 -- proofs/Starred.antt.
-use Rattle.std.specs.Prelude.{ℕ, ◌≡◌, Bool, true, false, List, [], ◌∷◌, ◌++◌, map, length, drop}
+use Rattle.std.specs.Prelude.{ℕ, ◌≡◌, Bool, true, false, List, [], ◌∷◌, ◌++◌, map, length, drop, Ok}
 use Rattle.lists.specs.Order.{All}
 use Rattle.utf.specs.declared.scheme.Scheme.{Scheme}
 use Rattle.utf.specs.declared.scheme.Scheme.TheVariants.{Utf8, Utf32Be, Utf32Le, Utf32}
 use Rattle.table.specs.Limits.{limits}
 use Rattle.table.specs.Codes.{code_of}
 use Rattle.table.specs.Slices.{Slices, Lent}
-use Rattle.table.specs.Load.{loaded_by, given, left_in}
+use Rattle.table.specs.Numbers.{Loaded}
+use Rattle.table.specs.Load.{loaded_by, given, left_in, record_handed}
 use Rattle.table.specs.TableK.{k_text}
 use Rattle.table.specs.declared.states.Code.{Code}
 use Rattle.table.specs.declared.valid.Record.{Record}
-use Rattle.table.specs.declared.load.Answer.TheVariants.{Accepted}
-use Rattle.table.specs.declared.load.Loaded.{Loaded}
 use Rattle.convert.specs.Run.{Run, converted_of, put_out, end_number, end_length}
 use Rattle.convert.specs.Step.{strict, substituting, with_skip}
 use Rattle.convert.specs.Convert.{to_tested, from_tested}
 use Rattle.convert.specs.declared.Settings.{Settings}
-use Rattle.audit.specs.Audit.{Finding, Answer, ending_number, audit_tested, entry_number, audited_of, space_after}
+use Rattle.audit.specs.Audit.{Finding, Answer, ending_number, audit_tested, entry_number, audited_of, ending_of}
+use Rattle.audit.specs.Audit.{handed_on, space_after}
 
 -- a setting off or on
 abbrev off : Bool
@@ -60,10 +60,11 @@ converts r out =
     let d = converted_of r in
     conversion (end_number d.end) (end_length d.end) d.read d.written (put_out r out)
 
-abbrev pub calls : Answer → List ℕ → Seen
-calls a out =
-    let d = audited_of a in
-    call (ending_number d.ending) d.written d.count d.position d.finished (space_after a out)
+abbrev pub calls : Code → Answer → List ℕ → Seen
+calls pos a out =
+    let r = audited_of a in
+    let d = handed_on pos r in
+    call (ending_number (ending_of r)) d.written d.count d.position d.finished (space_after a out)
 
 -- on a record and slices
 abbrev pub ask_on : Record → Slices → List ℕ → Question → Seen
@@ -72,11 +73,12 @@ ask_on rec m out (to_unicode e settings input) =
 ask_on rec m out (from_unicode e settings input) =
     converts (from_tested e limits rec m settings input (length out)) out
 ask_on rec m out (audit fallback position allowance) =
-    calls (audit_tested limits rec m fallback (code_of position) allowance (length out)) out
+    let pos = code_of position in calls pos (audit_tested limits rec m fallback pos allowance (length out)) out
 
 -- on the record and the slices that the load of K's text gave and left
 unfoldable pub ask : Slices → List ℕ → Question → Seen
-ask old out q = ask_on (loaded_by (given limits k_text old)).table (left_in limits (given limits k_text old) old) out q
+ask old out q =
+    let g = given limits k_text old in ask_on (record_handed (loaded_by g)) (left_in limits g old) out q
 
 -- what is expected, as a caller sees it: output or entries at the front of the slice, and after them its old values
 abbrev pub seen_as : Reply → List ℕ → Seen
@@ -203,22 +205,18 @@ cases =
     ++ from_in Utf32Be (skips unskipped) (0 ∷ 0 ∷ 0xd8 ∷ 0x3d ∷ 0 ∷ 0 ∷ 0 ∷ 0x33 ∷ []) 16
     (converted 0 8 (0x3f ∷ 0x33 ∷ []))
 
--- K's text is accepted, line 0, with this record
+-- K's text is accepted, with this record
 abbrev pub k_loaded : Loaded
 k_loaded =
-    record {
-      answer = Accepted;
-      line = 0;
-      table =
-          record {
-            rows = 2;
-            mappings = 6;
-            min = 1;
-            max = 2;
-            subchar = record { bits = 0x3f000000; len = 1 };
-            subchar1 = 0;
-          };
-    }
+    Ok
+    (record {
+      rows = 2;
+      mappings = 6;
+      min = 1;
+      max = 2;
+      subchar = record { bits = 0x3f000000; len = 1 };
+      subchar1 = 0;
+    })
 
 -- a case holds, whatever the output slice held
 abbrev pub Holds : Slices → Case → Type 0

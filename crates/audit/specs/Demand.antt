@@ -11,8 +11,7 @@ use Rattle.table.specs.Meaning.{Table, steps_of}
 use Rattle.table.specs.Slices.{Slices}
 use Rattle.table.specs.declared.states.Code.{Code}
 use Rattle.table.specs.declared.valid.Record.{Record}
-use Rattle.audit.specs.Audit.{Finding, ending_number, complete_codes, plain_list}
-use Rattle.audit.specs.declared.Ending.{Ending}
+use Rattle.audit.specs.Audit.{Finding, Ending, ending_number, complete_codes, plain_list}
 
 -- the position of no bytes
 abbrev pub beginning : Code

@@ -1,4 +1,5 @@
-pub mod Lengths
 pub mod Records
+pub mod Kept
 pub mod Conversions
+pub mod Audits
 pub mod PieceAnswers

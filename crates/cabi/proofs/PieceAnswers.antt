@@ -1,87 +1,87 @@
--- What the calls in pieces exported to C answer, by what was found of their slices and of their scheme: once for all four.
--- piece-short-kept, piece-short-record, piece-short-result   70      piece-none   71      piece-run   the call's own
-use mathlib.Core.Path.{◌≡◌, refl, sym, ap, ◌∙◌}
-use mathlib.Core.Bool.{Bool, true, false}
-use mathlib.Core.List.{List, [], ◌∷◌}
-use Prim.Native.Nat.{ℕ, zero, suc, ◌<◌, ◌≤◌}
-use lib.ListN.{length, get_or}
-use Rattle.lists.proofs.Cases.{pick_yes, pick_no}
+-- What a call in pieces exported to C answers, by what was asked of it: once for all four.
+use Rattle.std.proofs.Common.{◌≡◌, refl, sym, ap, ◌∙◌, ℕ, ◌<◌, List, [], ◌∷◌, Bool, true, false, ltb, length}
+use Rattle.std.specs.Prelude.{Option, Some, None, Result, Ok, Err}
+use Rattle.lists.specs.Pick.{pick}
+use Rattle.lists.proofs.Laws.{tests}
 use Rattle.utf.specs.declared.scheme.Scheme.{Scheme}
+use Rattle.table.specs.declared.valid.Record.{Record}
 use Rattle.convert.specs.Run.{put_bytes}
-use Rattle.convert.specs.Pieces.{place_at, PieceAnswer, answered_of, piece_number, piece_length}
+use Rattle.convert.specs.Pieces.{PieceAnswer, answered_of, piece_number, piece_length}
 use Rattle.convert.specs.declared.pieces.Kept.{Kept}
 use Rattle.convert.specs.declared.pieces.Pieced.{Pieced}
-use Rattle.cabi.specs.Exported.{with_numbers, are_kept, standing_in, no_kept, kept_in, kept_after, PieceAnswered, piece_unanswered, piece_answered_by, piece_in_scheme, scheme_in, piece_answered}
-use Rattle.cabi.specs.declared.Named.{Named}
-use Rattle.cabi.specs.declared.Named.TheVariants as named
-use Rattle.cabi.proofs.Lengths.{fewer, enough, short-record, short-result, long-enough}
+use Rattle.cabi.specs.Exported.{record_in, kept_in, kept_after, if_fewer, if_short, with_numbers}
+use Rattle.cabi.specs.Exported.{scheme_in, PieceAnswered, piece_unanswered, piece_answered_by}
+use Rattle.cabi.specs.Exported.{piece_in_scheme, piece_answered}
+use Rattle.cabi.specs.loops.Asked.{kept_of, number_of, with_scheme, asked}
+use Rattle.cabi.specs.declared.Misuse.{Misuse}
+use Rattle.cabi.specs.declared.Misuse.TheVariants as misuse
 
-module _ (rec : List ℕ) (n : ℕ) (run : Scheme → PieceAnswer) (kept output result : List ℕ) where
+kept_of-short : (ns : List ℕ) → length ns < 5 → None ≡ kept_of ns
+unfolding if_fewer
+kept_of-short ns h = search tests
+
+module _ (run : Kept → Record → Scheme → PieceAnswer) (rec : List ℕ) (n : ℕ) (kept output result : List ℕ) where
+  -- its number alone where something is wrong, or the call
+  abbrev answered_as : Option Kept → Result (Record × Scheme) Misuse → PieceAnswered
+  answered_as None a = piece_unanswered 70 kept output result
+  answered_as (Some k) (Err w) = piece_unanswered (number_of (Err w)) kept output result
+  answered_as (Some k) (Ok (r, e)) = piece_answered_by (run k r e) kept output result
+
+  by-tests : (k : Kept) (r : Record) (a b d : Bool) (o : Option Scheme)
+      → (let short = piece_unanswered 70 kept output result in
+      pick a short (pick b short (pick d short (piece_in_scheme o (run k r) kept output result))))
+      ≡ answered_as (pick a None (Some k)) (with_scheme (pick b (Err misuse.Short) (pick d (Err misuse.Short) (Ok r))) o)
+  by-tests k r true b d o = refl
+  by-tests k r false true d o = refl
+  by-tests k r false false true o = refl
+  by-tests k r false false false None = refl
+  by-tests k r false false false (Some e) = refl
+
+  by-asked : piece_answered rec n (run (kept_in kept) (record_in rec)) kept output result ≡ answered_as (kept_of kept) (asked rec n result)
+  unfolding piece_answered if_short if_fewer
+  by-asked =
+      by-tests (kept_in kept) (record_in rec) (ltb (length kept) 5) (ltb (length rec) 7) (ltb (length result) 3) (scheme_in n)
+
   -- a number and the three slices are what a call answers
   abbrev pub PieceAnswers : ℕ → List ℕ → List ℕ → List ℕ → Type 0
   PieceAnswers r k out res =
-      let a = piece_answered rec n run kept output result in
+      let a = piece_answered rec n (run (kept_in kept) (record_in rec)) kept output result in
       (r ≡ a.number) × (k ≡ a.kept) × (out ≡ a.output) × (res ≡ a.result)
 
-  piece-parts : (a : PieceAnswered) → piece_answered rec n run kept output result ≡ a → PieceAnswers a.number a.kept a.output a.result
-  piece-parts a e = (
-    ap (λ (x : PieceAnswered). x.number) (sym e),
-    ap (λ (x : PieceAnswered). x.kept) (sym e),
-    ap (λ (x : PieceAnswered). x.output) (sym e),
-    ap (λ (x : PieceAnswered). x.result) (sym e),
-  )
+  unchanged : (k : ℕ) → piece_unanswered k kept output result ≡ answered_as (kept_of kept) (asked rec n result)
+      → (r : ℕ) → r ≡ k → PieceAnswers r kept output result
+  unchanged k h r q =
+      let e = h ∙ sym by-asked in (
+        q ∙ ap (λ (x : PieceAnswered). x.number) e,
+        ap (λ (x : PieceAnswered). x.kept) e,
+        ap (λ (x : PieceAnswered). x.output) e,
+        ap (λ (x : PieceAnswered). x.result) e,
+      )
 
-  pub piece-short-kept : length kept < 5 → PieceAnswers 70 kept output result
-  unfolding piece_answered
-  piece-short-kept h = piece-parts (piece_unanswered 70 kept output result) (fewer 5 kept _ _ h)
+  pub short-kept : None ≡ kept_of kept → (r : ℕ) → r ≡ 70 → PieceAnswers r kept output result
+  short-kept is r q = unchanged 70 (ap (λ (x : Option Kept). answered_as x (asked rec n result)) is) r q
 
-  module _ (g : 5 ≤ length kept) where
-    pub piece-short-record : length rec < 7 → PieceAnswers 70 kept output result
-    unfolding piece_answered
-    piece-short-record h = piece-parts (piece_unanswered 70 kept output result) (enough 5 kept _ _ g ∙ short-record _ rec result _ _ h)
+  module _ (k : Kept) (came : Some k ≡ kept_of kept) where
+    pub answers-err : (w : Misuse) → Err w ≡ asked rec n result → (r : ℕ) → r ≡ number_of (Err w) → PieceAnswers r kept output result
+    answers-err w is r q = unchanged (number_of (Err w)) (λ i. answered_as (came i) (is i)) r q
 
-    module _ (h : 7 ≤ length rec) where
-      pub piece-short-result : length result < 3 → PieceAnswers 70 kept output result
-      unfolding piece_answered
-      piece-short-result k = piece-parts (piece_unanswered 70 kept output result) (enough 5 kept _ _ g ∙ short-result _ rec result _ _ h k)
+    -- the call's own answer, kept state, output slice and counts
+    pub answers-ok : (r : Record) (e : Scheme) → Ok (r, e) ≡ asked rec n result
+        → (done : Pieced) → done ≡ answered_of (run k r e)
+        → (m : ℕ) (s out res : List ℕ) → m ≡ piece_number done.end → s ≡ kept_after done.end done.kept kept → out ≡ put_bytes (run k r e).bytes output
+        → res ≡ with_numbers (done.read ∷ done.written ∷ piece_length done.end ∷ []) result → PieceAnswers m s out res
+    answers-ok r e is done d m s out res q z o w =
+        let x : piece_answered_by (run k r e) kept output result ≡ piece_answered rec n (run (kept_in kept) (record_in rec)) kept output result =
+        (λ i. answered_as (came i) (is i)) ∙ sym by-asked in (
+          q ∙ ap (λ (y : Pieced). piece_number y.end) d ∙ ap (λ (y : PieceAnswered). y.number) x,
+          z ∙ ap (λ (y : Pieced). kept_after y.end y.kept kept) d ∙ ap (λ (y : PieceAnswered). y.kept) x,
+          o ∙ ap (λ (y : PieceAnswered). y.output) x,
+          w ∙ ap (λ (y : Pieced). with_numbers (y.read ∷ y.written ∷ piece_length y.end ∷ []) result) d ∙ ap (λ (y : PieceAnswered). y.result) x,
+        )
 
-      module _ (k : 3 ≤ length result) where
-        by-scheme : (x : Named) → scheme_in n ≡ x → piece_answered rec n run kept output result ≡ piece_in_scheme x run kept output result
-        unfolding piece_answered
-        by-scheme x e =
-            enough 5 kept _ _ g ∙ long-enough _ rec result _ _ h k ∙ ap (λ (y : Named). piece_in_scheme y run kept output result) e
-
-        pub piece-none : scheme_in n ≡ named.None → PieceAnswers 71 kept output result
-        piece-none e = piece-parts (piece_unanswered 71 kept output result) (by-scheme named.None e)
-
-        -- the call's own answer, kept state, output slice and counts
-        pub piece-run : (e : Scheme) → scheme_in n ≡ named.Of e → (done : Pieced) → done ≡ answered_of (run e)
-            → (r : ℕ) (s out res : List ℕ) → r ≡ piece_number done.end → s ≡ kept_after done.end done.kept kept → out ≡ put_bytes (run e).bytes output
-            → res ≡ with_numbers (done.read ∷ done.written ∷ piece_length done.end ∷ []) result → PieceAnswers r s out res
-        piece-run e named-so done is r s out res q z o w =
-            let a = piece-parts (piece_answered_by (run e) kept output result) (by-scheme (named.Of e) named-so) in (
-              q ∙ ap (λ (x : Pieced). piece_number x.end) is ∙ a.0,
-              z ∙ ap (λ (x : Pieced). kept_after x.end x.kept kept) is ∙ a.1,
-              o ∙ a.2,
-              w ∙ ap (λ (x : Pieced). with_numbers (x.read ∷ x.written ∷ piece_length x.end ∷ []) result) is ∙ a.3,
-            )
-
--- the place of the mark, by its number
-pub place_at-far : (n : ℕ) → (n ≡ 0 → ⊥) → (n ≡ 1 → ⊥) → place_at 2 ≡ place_at n
-place_at-far zero h k = absurd (h refl)
-place_at-far (suc zero) h k = absurd (k refl)
-place_at-far (suc (suc n)) h k = refl
-
--- numbers that stand for no kept state, and those that do
-module _ (ns : List ℕ) where
-  abbrev are : Bool
-  are = are_kept (get_or ns 2 0) (get_or ns 3 0) (get_or ns 4 0)
-
-  pub kept_in-none : are ≡ false → no_kept ≡ kept_in ns
-  unfolding kept_in
-  kept_in-none h = sym (pick_no are _ _ h)
-
-  pub kept_in-some : are ≡ true
-      → ◌≡◌ {A = Kept} (record { bytes = record { bits = get_or ns 0 0; len = get_or ns 1 0 }; mark = place_at (get_or ns 2 0); standing = standing_in (get_or ns 3 0) (get_or ns 4 0) }) (kept_in ns)
-  unfolding kept_in
-  kept_in-some h = sym (pick_yes are _ _ h)
+-- a kept state of too few numbers is the first that is found
+pub piece-short-kept : (rec : List ℕ) (n : ℕ) (run : Scheme → PieceAnswer) (kept output result : List ℕ) → length kept < 5
+    → let a = piece_answered rec n run kept output result in
+    (70 ≡ a.number) × (kept ≡ a.kept) × (output ≡ a.output) × (result ≡ a.result)
+piece-short-kept rec n run kept output result h =
+    short-kept (λ k r e. run e) rec n kept output result (kept_of-short kept h) 70 refl

@@ -1,7 +1,9 @@
 -- What the functions exported to C answer, and what they leave in the lent slices, by document 01's own functions: the
 -- record as seven numbers, settings and the scheme as numbers, each answer as a number and a slice of results. 70 is
 -- the number for a slice that is too short, 71 for a number that is no scheme.
+use Rattle.utf.specs.declared.utf8.Stop.{Stop}
 use Rattle.std.specs.Prelude.{if◌then◌else◌, ℕ, Bool, not, List, [], ◌∷◌, eqb, ltb, leb, length, get_or}
+use Rattle.std.specs.Prelude.{Option, Some, None}
 use Rattle.lists.specs.Pick.{◌and◌, ◌or◌}
 use Rattle.lists.specs.Place.{placed}
 use Rattle.utf.specs.Utf8.{stop_number}
@@ -12,7 +14,8 @@ use Rattle.table.specs.Limits.{limits}
 use Rattle.table.specs.Slices.{Slices}
 use Rattle.table.specs.Valid.{valid}
 use Rattle.table.specs.declared.valid.Record.{Record}
-use Rattle.table.specs.declared.load.Loaded.{Loaded}
+use Rattle.table.specs.Numbers.{Loaded}
+use Rattle.table.specs.Load.{line_refused}
 use Rattle.table.specs.declared.states.Code.{Code}
 use Rattle.convert.specs.Run.{Run, put_bytes, put_out, end_number, run_length}
 use Rattle.convert.specs.Convert.{to_tested, from_tested}
@@ -21,15 +24,10 @@ use Rattle.convert.specs.Pieces.{close_tested, piece_number, piece_length}
 use Rattle.convert.specs.loops.Carried.{is_refused}
 use Rattle.convert.specs.declared.Settings.{Settings}
 use Rattle.convert.specs.declared.pieces.Way.{Way}
-use Rattle.convert.specs.declared.pieces.MarkPlace.TheVariants.{Ahead}
-use Rattle.convert.specs.declared.pieces.Standing.{Standing}
-use Rattle.convert.specs.declared.pieces.Standing.TheVariants as stands
 use Rattle.convert.specs.declared.pieces.Kept.{Kept}
 use Rattle.convert.specs.declared.pieces.PieceEnd.{PieceEnd}
 use Rattle.audit.specs.Audit.{audit_tested, Answer as AuditAnswer}
 use Rattle.audit.specs.declared.Audited.{Audited}
-use Rattle.cabi.specs.declared.Named.{Named}
-use Rattle.cabi.specs.declared.Named.TheVariants as named
 
 -- the record that seven numbers stand for
 abbrev pub record_in : List ℕ → Record
@@ -71,7 +69,7 @@ record_numbers r =
 
 -- what loading hands back beside its number and the record: the line
 abbrev pub loaded_numbers : Loaded → List ℕ
-loaded_numbers l = l.line ∷ []
+loaded_numbers l = line_refused l ∷ []
 
 -- oboepond_check: 0 where record and memory pass the test behind 60
 unfoldable pub check_number : List ℕ → Slices → ℕ
@@ -81,13 +79,13 @@ check_number rec m =
 -- ## The conversions
 
 -- the scheme that a number stands for
-unfoldable pub scheme_in : ℕ → Named
+unfoldable pub scheme_in : ℕ → Option Scheme
 scheme_in n =
-    if eqb n 0 then named.Of scheme.Utf8 else
-    if eqb n 1 then named.Of scheme.Utf32Be else
-    if eqb n 2 then named.Of scheme.Utf32Le else
-    if eqb n 3 then named.Of scheme.Utf32 else
-    named.None
+    if eqb n 0 then Some scheme.Utf8 else
+    if eqb n 1 then Some scheme.Utf32Be else
+    if eqb n 2 then Some scheme.Utf32Le else
+    if eqb n 3 then Some scheme.Utf32 else
+    None
 
 -- what a conversion hands back beside its number: bytes read, bytes written, the length of the illegal sequence
 abbrev pub run_numbers : Run → List ℕ
@@ -107,9 +105,9 @@ abbrev pub answered_by : Run → List ℕ → List ℕ → Answered
 answered_by run output result =
     record { number = end_number run.end; output = put_out run output; result = with_numbers (run_numbers run) result }
 
-abbrev pub in_scheme : Named → (Scheme → Run) → List ℕ → List ℕ → Answered
-in_scheme named.None run output result = unanswered 71 output result
-in_scheme (named.Of e) run output result = answered_by (run e) output result
+abbrev pub in_scheme : Option Scheme → (Scheme → Run) → List ℕ → List ℕ → Answered
+in_scheme None run output result = unanswered 71 output result
+in_scheme (Some e) run output result = answered_by (run e) output result
 
 -- either conversion, by record, scheme, and the output and the result slice before: 70, then 71, then the run
 unfoldable pub answered : List ℕ → ℕ → (Scheme → Run) → List ℕ → List ℕ → Answered
@@ -148,7 +146,7 @@ audit_exported rec m fallback bits len allowance space =
 -- little-endian), the answer that stands (0 for none) and the length beside a 52. Others stand for a state that no call
 -- hands back: four bytes
 abbrev pub no_kept : Kept
-no_kept = record { bytes = record { bits = 0; len = 4 }; mark = Ahead; standing = stands.Nothing }
+no_kept = record { bytes = record { bits = 0; len = 4 }; mark = None; standing = None }
 
 abbrev pub stands_alone : ℕ → Bool
 stands_alone number = eqb number 0 or eqb number 51 or eqb number 53
@@ -156,12 +154,12 @@ stands_alone number = eqb number 0 or eqb number 51 or eqb number 53
 abbrev pub are_kept : ℕ → ℕ → ℕ → Bool
 are_kept mark number length = leb mark 2 and (eqb number 52 or eqb length 0 and stands_alone number)
 
-abbrev pub standing_in : ℕ → ℕ → Standing
+abbrev pub standing_in : ℕ → ℕ → Option Stop
 standing_in number length =
-    if eqb number 0 then stands.Nothing else
-    if eqb number 51 then stands.Stopped stopped.CutShort else
-    if eqb number 52 then stands.Stopped (stopped.Illegal length) else
-    stands.Stopped stopped.Unassigned
+    if eqb number 0 then None else
+    if eqb number 51 then Some stopped.CutShort else
+    if eqb number 52 then Some (stopped.Illegal length) else
+    Some stopped.Unassigned
 
 unfoldable pub kept_in : List ℕ → Kept
 kept_in ns =
@@ -173,15 +171,15 @@ kept_in ns =
     }
     else no_kept
 
-abbrev pub standing_number : Standing → ℕ
-standing_number stands.Nothing = 0
-standing_number (stands.Stopped w) = stop_number w
+abbrev pub standing_number : Option Stop → ℕ
+standing_number None = 0
+standing_number (Some w) = stop_number w
 
-abbrev pub standing_length : Standing → ℕ
-standing_length stands.Nothing = 0
-standing_length (stands.Stopped stopped.CutShort) = 0
-standing_length (stands.Stopped (stopped.Illegal n)) = n
-standing_length (stands.Stopped stopped.Unassigned) = 0
+abbrev pub standing_length : Option Stop → ℕ
+standing_length None = 0
+standing_length (Some stopped.CutShort) = 0
+standing_length (Some (stopped.Illegal n)) = n
+standing_length (Some stopped.Unassigned) = 0
 
 abbrev pub kept_numbers : Kept → List ℕ
 kept_numbers k =
@@ -213,9 +211,9 @@ piece_answered_by a kept output result =
       result = with_numbers (piece_numbers a) result;
     }
 
-abbrev pub piece_in_scheme : Named → (Scheme → PieceAnswer) → List ℕ → List ℕ → List ℕ → PieceAnswered
-piece_in_scheme named.None run kept output result = piece_unanswered 71 kept output result
-piece_in_scheme (named.Of e) run kept output result = piece_answered_by (run e) kept output result
+abbrev pub piece_in_scheme : Option Scheme → (Scheme → PieceAnswer) → List ℕ → List ℕ → List ℕ → PieceAnswered
+piece_in_scheme None run kept output result = piece_unanswered 71 kept output result
+piece_in_scheme (Some e) run kept output result = piece_answered_by (run e) kept output result
 
 -- any of the four calls: 70, then 71, then the answer
 unfoldable pub piece_answered :

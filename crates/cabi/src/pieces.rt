@@ -1,17 +1,23 @@
 // The functions for C and Rust that convert in pieces: the kept state is five numbers in a lent slice.
-ghost use Rattle.std.specs.Prelude.{◌≡◌, false, [], ◌∷◌, ◌≤◌, length};
+ghost use Rattle.std.specs.Prelude.{if◌then◌else◌, ◌≡◌, false, [], ◌∷◌, ◌≤◌, length, Some, OnSome, option_copied};
 ghost use Rattle.table.specs.Slices.{slices};
-ghost use Rattle.convert.specs.Pieces.{state_at, place_at, piece_number, piece_length};
+ghost use Rattle.convert.specs.Run.{put_bytes};
+ghost use Rattle.convert.specs.Pieces.{state_at, answered_of, piece_number, piece_length};
 ghost use Rattle.convert.specs.loops.Carried.{is_refused, FewBytes};
 ghost use Rattle.convert.specs.declared.pieces.Way.TheVariants.{ToUnicode, FromUnicode};
-ghost use Rattle.cabi.specs.Exported.{with_numbers, settings_in, stands_alone, are_kept, standing_in, kept_in};
-ghost use Rattle.cabi.specs.Exported.{standing_number, standing_length, kept_numbers, kept_after};
-ghost use Rattle.cabi.specs.Exported.{piece_answered, piece_exported, close_exported};
+ghost use Rattle.cabi.specs.Exported.{with_numbers, settings_in, record_in, kept_in, kept_numbers};
+ghost use Rattle.cabi.specs.Exported.{kept_after, standing_number, standing_length, piece_answered};
+ghost use Rattle.cabi.specs.Exported.{piece_exported, close_exported};
+ghost use Rattle.cabi.specs.loops.Asked.{number_of, memory_in, kept_of, kept_from, place_of, standing_of};
+ghost use Rattle.cabi.specs.loops.Asked.{call_exported};
 
-use crate::{NO_SCHEME, Named, RECORD, SHORT};
-use convert::pieces::{Kept, MarkPlace, PieceEnd, Pieced, Standing, Way};
+use crate::{Misuse, RawTable};
+use convert::pieces::{Kept, PieceEnd, Pieced, Way};
 use convert::{RunEnd, Settings};
+use table::lent::Lent;
 use table::states::Code;
+use table::valid::Record;
+use utf::scheme::Scheme;
 use utf::utf8::Stop;
 use utf::utf32::ByteOrder;
 
@@ -19,276 +25,199 @@ use utf::utf32::ByteOrder;
 const KEPT: usize = 5;
 
 // A state that no call hands back.
+// No Option: C is answered 42 for it, by the test that all kept states pass.
 const NO_KEPT: Kept = Kept {
     bytes: Code { bits: 0, len: 4 },
-    mark: MarkPlace::Ahead,
-    standing: Standing::Nothing,
+    mark: None,
+    standing: None,
 };
 
-// Whether a number is an answer that stands beside no length, or none.
-fn stands_alone(number: u32) -> bool
-    ensures { result ≡ stands_alone number }
+// The place of the mark, where a number stands for one. (No `TryFrom`, as for the scheme.)
+fn mark_in(number: u32) -> Option<Option<ByteOrder>>
+    ensures { result ≡ place_of number }
 {
-    if number == 0 {
-        return true;
+    match number {
+        0 => Some(None),
+        1 => Some(Some(ByteOrder::Big)),
+        2 => Some(Some(ByteOrder::Little)),
+        _ => None,
     }
-    if number == 51 {
-        return true;
-    }
-    number == 53
 }
 
-// Whether the last three numbers stand for the rest of a kept state.
-fn are_kept(mark: u32, number: u32, length: u32) -> bool
-    ensures { result ≡ are_kept mark number length }
+// The answer that stands, where a number and a length stand for one or for none.
+// The numbers are C's, as for the scheme.
+fn standing_in(number: u32, length: u32) -> Option<Option<Stop>>
+    ensures { result ≡ standing_of number length }
 {
-    if 2 < mark {
-        return false;
+    match (number, length) {
+        (0, 0) => Some(None),
+        (51, 0) => Some(Some(Stop::CutShort)),
+        (52, n) => Some(Some(Stop::Illegal(n as usize))),
+        (53, 0) => Some(Some(Stop::Unassigned)),
+        _ => None,
     }
-    if number == 52 {
-        return true;
-    }
-    if length == 0 {
-        return stands_alone(number);
-    }
-    false
 }
 
-// The place of the mark.
-fn mark_in(number: u32) -> MarkPlace
-    ensures { result ≡ place_at number }
+// The kept state that five numbers stand for, if they stand for one.
+fn kept_by(bytes: Code, mark: u32, number: u32, length: u32) -> Option<Kept>
+    ensures { result ≡ kept_from bytes (place_of mark) (standing_of number length) }
 {
-    if number == 0 {
-        return MarkPlace::Ahead;
-    }
-    if number == 1 {
-        return MarkPlace::Behind(ByteOrder::Big);
-    }
-    MarkPlace::Behind(ByteOrder::Little)
+    let mark = mark_in(mark)?;
+    let standing = standing_in(number, length)?;
+    Some(Kept {
+        bytes,
+        mark,
+        standing,
+    })
 }
 
-// The answer that stands.
-fn standing_in(number: u32, length: u32) -> Standing
-    ensures { result ≡ standing_in number length }
+// The kept state that the numbers at the front stand for.
+#[tactic(auto, using(crate::proofs::Kept::kept_in_parts), unfolding(crate::specs::Exported::if_fewer))]
+fn kept_in(numbers: &[u32]) -> Option<Kept>
+    ensures value { result ≡ kept_of numbers.now }
+    ensures enough { OnSome result (5 ≤ length numbers.now) }
 {
-    if number == 0 {
-        return Standing::Nothing;
-    }
-    if number == 51 {
-        return Standing::Stopped(Stop::CutShort);
-    }
-    if number == 52 {
-        return Standing::Stopped(Stop::Illegal(length as usize));
-    }
-    Standing::Stopped(Stop::Unassigned)
-}
-
-// The kept state that five numbers stand for.
-fn kept_in(numbers: &[u32]) -> Kept
-    requires { 5 ≤ length numbers.now }
-    ensures { result ≡ kept_in numbers.now }
-{
-    if !are_kept(numbers[2], numbers[3], numbers[4]) {
-        return NO_KEPT;
-    }
-    let mark = mark_in(numbers[2]);
-    let standing = standing_in(numbers[3], numbers[4]);
-    Kept {
-        bytes: Code {
-            bits: numbers[0],
-            len: numbers[1],
-        },
-        mark: mark,
-        standing: standing,
-    }
+    let &[bits, len, mark, number, length, ..] = numbers else {
+        return None;
+    };
+    Some(kept_by(Code { bits, len }, mark, number, length).unwrap_or(NO_KEPT))
 }
 
 // The number of the place of the mark.
-fn mark_number(mark: MarkPlace) -> u32
+fn mark_number(mark: Option<ByteOrder>) -> u32
     ensures { result ≡ state_at mark }
 {
     match mark {
-        MarkPlace::Ahead => 0,
-        MarkPlace::Behind(byte_order) => match byte_order {
-            ByteOrder::Big => 1,
-            ByteOrder::Little => 2,
-        },
+        None => 0,
+        Some(ByteOrder::Big) => 1,
+        Some(ByteOrder::Little) => 2,
     }
 }
 
 // The number of the answer that stands, or 0.
-fn standing_number(standing: Standing) -> u32
+fn standing_number(standing: Option<Stop>) -> u32
     ensures { result ≡ standing_number standing }
 {
     match standing {
-        Standing::Nothing => 0,
-        Standing::Stopped(stop) => utf::utf8::stop_number(stop),
+        None => 0,
+        Some(stop) => stop.number(),
     }
 }
 
 // The length beside a 52 that stands, or 0.
-fn standing_length(standing: Standing) -> u32
+// 0 and no Option: C is given 0 beside each other answer.
+fn standing_length(standing: Option<Stop>) -> u32
     requires { FewBytes standing }
     ensures { result ≡ standing_length standing }
 {
     match standing {
-        Standing::Nothing => 0,
-        Standing::Stopped(stop) => match stop {
-            Stop::CutShort => 0,
-            Stop::Illegal(n) => n as u32,
-            Stop::Unassigned => 0,
-        },
+        Some(Stop::Illegal(n)) => n as u32,
+        _ => 0,
     }
 }
 
 // Writes a kept state to the front of a slice.
 fn put_kept(kept: Kept, numbers: &mut [u32])
-    requires { (5 ≤ length numbers.old) × FewBytes kept.standing }
+    requires five { 5 ≤ length numbers.old }
+    requires few { FewBytes kept.standing }
     ensures { numbers.new ≡ with_numbers (kept_numbers kept) numbers.old }
 {
-    let bytes = kept.bytes;
-    let mark = kept.mark;
-    let standing = kept.standing;
-    let place = mark_number(mark);
-    let number = standing_number(standing);
-    let length = standing_length(standing);
-    numbers[0] = bytes.bits;
-    numbers[1] = bytes.len;
-    numbers[2] = place;
-    numbers[3] = number;
-    numbers[4] = length;
+    let Code { bits, len } = kept.bytes;
+    let place = mark_number(kept.mark);
+    let number = standing_number(kept.standing);
+    let length = standing_length(kept.standing);
+    numbers[..KEPT].copy_from_slice(&[bits, len, place, number, length]);
 }
 
 // Whether a call ended by 60 or 42.
 fn is_refused(end: PieceEnd) -> bool
     ensures { result ≡ is_refused end }
 {
-    match end {
-        PieceEnd::BadKept => true,
-        PieceEnd::Ended(how) => match how {
-            RunEnd::AllRead => false,
-            RunEnd::OutputFull => false,
-            RunEnd::BadTable => true,
-            RunEnd::Stopped(_) => false,
-        },
-    }
+    matches!(end, PieceEnd::BadKept | PieceEnd::Ended(RunEnd::BadTable))
 }
 
 // Writes the kept state back, but where the call was refused.
 fn keep(done: Pieced, numbers: &mut [u32])
-    requires { (5 ≤ length numbers.old)
-        × (is_refused done.end ≡ false → FewBytes done.kept.standing) }
+    requires five { 5 ≤ length numbers.old }
+    requires few { is_refused done.end ≡ false → FewBytes done.kept.standing }
     ensures { numbers.new ≡ kept_after done.end done.kept numbers.old }
 {
-    let end = done.end;
-    if is_refused(end) {
-        return;
+    if !is_refused(done.end) {
+        put_kept(done.kept, numbers);
     }
-    let kept = done.kept;
-    put_kept(kept, numbers)
 }
 
 // Writes the counts of a call and the length of the illegal sequence, and answers its number.
 fn put_pieced(done: Pieced, res: &mut [u64]) -> u32
     requires { 3 ≤ length res.old }
-    ensures { (result ≡ piece_number done.end)
-        × (res.new
-        ≡ with_numbers (done.read ∷ done.written ∷ piece_length done.end ∷ []) res.old) }
+    ensures number { result ≡ piece_number done.end }
+    ensures written { res.new
+        ≡ with_numbers (done.read ∷ done.written ∷ piece_length done.end ∷ []) res.old }
 {
-    let end = done.end;
-    let illegal = convert::pieces::piece_length(end);
+    let illegal = done.end.length();
     let numbers = [done.read as u64, done.written as u64, illegal as u64];
     crate::put_numbers(&numbers, res);
-    convert::pieces::piece_number(end)
+    done.end.number()
 }
 
-// One call on a piece, either way.
-fn piece_by(
+// A call on a piece; the closing call where there is none.
+fn called(
     way: Way,
-    rec: &[u32],
-    states: &[u16],
-    codes: &[u32],
-    infos: &[u32],
-    order: &[u32],
+    held: Record,
+    table: RawTable<'_>,
+    came: Kept,
+    piece: Option<&[u8]>,
+    output: &mut [u8],
+    settings: Settings,
+    scheme: Scheme,
+) -> Pieced
+    ensures { let old =
+        output.old in
+        let given = option_copied piece.entry in
+        let a = call_exported way held (memory_in table.entry) came settings given (length old) scheme in
+        (result ≡ answered_of a) × (output.new ≡ put_bytes a.bytes old)
+        × (is_refused result.end ≡ false → FewBytes result.kept.standing) }
+{
+    let lent = Lent {
+        rec: held,
+        states: table.states,
+        lines: table.lines,
+    };
+    match piece {
+        Some(input) => {
+            convert::pieces::convert_piece(way, lent, came, input, output, settings, scheme)
+        }
+        None => convert::pieces::close(way, lent, came, output, settings, scheme),
+    }
+}
+
+// The same, with the record, the kept state and the scheme still as numbers, and what it gives written.
+fn call_by(
+    way: Way,
+    table: RawTable<'_>,
     kept: &mut [u32],
-    input: &[u8],
+    piece: Option<&[u8]>,
     output: &mut [u8],
     scheme: u32,
     settings: Settings,
     res: &mut [u64],
-) -> u32
-    ensures { let m =
-        slices states.now codes.now infos.now order.now in
+) -> Result<u32, Misuse>
+    ensures { let rec =
+        table.entry.rec.now in
         let old = output.old in
         let before = kept.old in
-        let run = piece_exported way rec.now m before settings input.now (length old) in
-        let a = piece_answered rec.now scheme run before old res.old in
-        (result ≡ a.number) × (kept.new ≡ a.kept) × (output.new ≡ a.output)
+        let given = option_copied piece.entry in
+        let m = memory_in table.entry in
+        let run = call_exported way (record_in rec) m (kept_in before) settings given (length old) in
+        let a = piece_answered rec scheme run before old res.old in
+        (number_of result ≡ a.number) × (kept.new ≡ a.kept) × (output.new ≡ a.output)
         × (res.new ≡ a.result) }
 {
-    if kept.len() < KEPT {
-        return SHORT;
-    }
-    if rec.len() < RECORD {
-        return SHORT;
-    }
-    if res.len() < 3 {
-        return SHORT;
-    }
-    let Named::Of(chosen) = crate::scheme_in(scheme) else {
-        return NO_SCHEME;
-    };
-    let held = crate::record_in(rec);
-    let came = kept_in(kept);
-    let done = convert::pieces::convert_piece(
-        way, held, states, codes, infos, order, came, input, output, settings, chosen,
-    );
+    let came = kept_in(kept).ok_or(Misuse::Short)?;
+    let (held, chosen) = crate::asked(table.rec, scheme, res)?;
+    let done = called(way, held, table, came, piece, output, settings, chosen);
     keep(done, kept);
-    put_pieced(done, res)
-}
-
-// The closing call, either way.
-fn close_by(
-    way: Way,
-    rec: &[u32],
-    states: &[u16],
-    codes: &[u32],
-    infos: &[u32],
-    order: &[u32],
-    kept: &mut [u32],
-    output: &mut [u8],
-    scheme: u32,
-    settings: Settings,
-    res: &mut [u64],
-) -> u32
-    ensures { let m =
-        slices states.now codes.now infos.now order.now in
-        let old = output.old in
-        let before = kept.old in
-        let run = close_exported way rec.now m before settings (length old) in
-        let a = piece_answered rec.now scheme run before old res.old in
-        (result ≡ a.number) × (kept.new ≡ a.kept) × (output.new ≡ a.output)
-        × (res.new ≡ a.result) }
-{
-    if kept.len() < KEPT {
-        return SHORT;
-    }
-    if rec.len() < RECORD {
-        return SHORT;
-    }
-    if res.len() < 3 {
-        return SHORT;
-    }
-    let Named::Of(chosen) = crate::scheme_in(scheme) else {
-        return NO_SCHEME;
-    };
-    let held = crate::record_in(rec);
-    let came = kept_in(kept);
-    let done = convert::pieces::close(
-        way, held, states, codes, infos, order, came, output, settings, chosen,
-    );
-    keep(done, kept);
-    put_pieced(done, res)
+    Ok(put_pieced(done, res))
 }
 
 // One call on a piece, from a table's bytes to Unicode.
@@ -316,25 +245,18 @@ pub fn oboepond_to_unicode_piece(
         (result ≡ a.number) × (kept.new ≡ a.kept) × (output.new ≡ a.output)
         × (res.new ≡ a.result) }
 {
-    let settings = Settings {
-        fallback: false,
-        substitute: substitute != 0,
-        skip: skip != 0,
-    };
-    piece_by(
+    let table = RawTable::new(rec, states, codes, infos, order);
+    let settings = crate::settings_in(0, substitute, skip);
+    crate::number_of(call_by(
         Way::ToUnicode,
-        rec,
-        states,
-        codes,
-        infos,
-        order,
+        table,
         kept,
-        input,
+        Some(input),
         output,
         scheme,
         settings,
         res,
-    )
+    ))
 }
 
 // One call on a piece, from Unicode to a table's bytes.
@@ -363,25 +285,18 @@ pub fn oboepond_from_unicode_piece(
         (result ≡ a.number) × (kept.new ≡ a.kept) × (output.new ≡ a.output)
         × (res.new ≡ a.result) }
 {
-    let settings = Settings {
-        fallback: fallback != 0,
-        substitute: substitute != 0,
-        skip: skip != 0,
-    };
-    piece_by(
+    let table = RawTable::new(rec, states, codes, infos, order);
+    let settings = crate::settings_in(fallback, substitute, skip);
+    crate::number_of(call_by(
         Way::FromUnicode,
-        rec,
-        states,
-        codes,
-        infos,
-        order,
+        table,
         kept,
-        input,
+        Some(input),
         output,
         scheme,
         settings,
         res,
-    )
+    ))
 }
 
 // The closing call, from a table's bytes to Unicode.
@@ -408,24 +323,18 @@ pub fn oboepond_to_unicode_close(
         (result ≡ a.number) × (kept.new ≡ a.kept) × (output.new ≡ a.output)
         × (res.new ≡ a.result) }
 {
-    let settings = Settings {
-        fallback: false,
-        substitute: substitute != 0,
-        skip: skip != 0,
-    };
-    close_by(
+    let table = RawTable::new(rec, states, codes, infos, order);
+    let settings = crate::settings_in(0, substitute, skip);
+    crate::number_of(call_by(
         Way::ToUnicode,
-        rec,
-        states,
-        codes,
-        infos,
-        order,
+        table,
         kept,
+        None,
         output,
         scheme,
         settings,
         res,
-    )
+    ))
 }
 
 // The closing call, from Unicode to a table's bytes.
@@ -453,22 +362,16 @@ pub fn oboepond_from_unicode_close(
         (result ≡ a.number) × (kept.new ≡ a.kept) × (output.new ≡ a.output)
         × (res.new ≡ a.result) }
 {
-    let settings = Settings {
-        fallback: fallback != 0,
-        substitute: substitute != 0,
-        skip: skip != 0,
-    };
-    close_by(
+    let table = RawTable::new(rec, states, codes, infos, order);
+    let settings = crate::settings_in(fallback, substitute, skip);
+    crate::number_of(call_by(
         Way::FromUnicode,
-        rec,
-        states,
-        codes,
-        infos,
-        order,
+        table,
         kept,
+        None,
         output,
         scheme,
         settings,
         res,
-    )
+    ))
 }

@@ -1,12 +1,13 @@
 // The exported functions: each is that of the crate `cabi`, with its promises, under its name for C.
+// C lends slices one by one, so the parameters stand one by one.
 #![tactic(auto)]
 
 ghost use Rattle.std.specs.Prelude.{◌≡◌, length};
 ghost use Rattle.table.specs.Limits.{limits};
 ghost use Rattle.table.specs.Slices.{slices};
-ghost use Rattle.table.specs.Load.{given_number, loaded_by, given, left_in};
+ghost use Rattle.table.specs.Load.{given_number, record_handed, loaded_by, given, left_in};
 ghost use Rattle.convert.specs.declared.pieces.Way.TheVariants.{ToUnicode, FromUnicode};
-ghost use Rattle.audit.specs.Audit.{audited_of, space_after, ending_number};
+ghost use Rattle.audit.specs.Audit.{page_handed, space_after, ending_number};
 ghost use Rattle.cabi.specs.Exported.{record_numbers, loaded_numbers, audited_numbers, check_number, settings_in};
 ghost use Rattle.cabi.specs.Exported.{if_short, with_numbers, answered, to_exported, from_exported};
 ghost use Rattle.cabi.specs.Exported.{audit_exported, piece_answered, piece_exported, close_exported};
@@ -29,7 +30,7 @@ pub extern "C" fn oboepond_load(
         let before = res.old in
         (result ≡ if_short 1 numbers before 70 (given_number g))
         × (rec.new
-        ≡ if_short 1 numbers before numbers (with_numbers (record_numbers (loaded_by g).table) numbers))
+        ≡ if_short 1 numbers before numbers (with_numbers (record_numbers (record_handed (loaded_by g))) numbers))
         × (slices states.new codes.new infos.new order.new
         ≡ if_short 1 numbers before old (left_in limits g old))
         × (res.new ≡ if_short 1 numbers before before (with_numbers (loaded_numbers (loaded_by g)) before)) }
@@ -185,7 +186,7 @@ pub extern "C" fn oboepond_audit(
         (result ≡ if_short 5 numbers before 70 (ending_number a.ending))
         × (entries.new ≡ if_short 5 numbers before old (space_after a old))
         × (res.new
-        ≡ if_short 5 numbers before before (with_numbers (audited_numbers (audited_of a)) before)) }
+        ≡ if_short 5 numbers before before (with_numbers (audited_numbers (page_handed a.page)) before)) }
 {
     cabi::oboepond_audit(
         rec, states, codes, infos, order, fallback, bits, len, allowance, entries, res,

@@ -1,4 +1,5 @@
 -- The two choices by the line that was found: what a code point is written as, and what is sent for that.
+use Rattle.std.specs.Prelude.{Option as Optional, Some}
 use Prim.Native.Nat.{ℕ, ◌-◌, ◌*◌, ◌%◌, ◌≤◌}
 use native.Mathlib.Omega.{arith}
 use mathlib.Core.Path.{◌≡◌, refl, sym, ap, ◌∙◌}
@@ -12,8 +13,6 @@ use Rattle.table.specs.Lookup.{indicator_of, line_found}
 use Rattle.table.specs.declared.lookup.Use.{Use}
 use Rattle.table.specs.declared.lookup.Use.TheVariants.{RoundTrip, Fallback, Substituted, ReverseFallback}
 use Rattle.table.specs.declared.lookup.Mapping.{Mapping}
-use Rattle.table.specs.declared.lookup.Found.{Found}
-use Rattle.table.specs.declared.lookup.Found.TheVariants as found
 use Rattle.table.specs.declared.valid.Record.{Record}
 use Rattle.table.proofs.Packing.{unpacked-one}
 use Rattle.table.proofs.TableParts.{subchar1-none, subchar1-some}
@@ -23,12 +22,12 @@ use Rattle.convert.specs.declared.WrittenAs.{WrittenAs}
 use Rattle.convert.specs.declared.WrittenAs.TheVariants as written
 
 -- what a line that was found says of its code point, by how it is used
-module _ (f : Found) (m : Mapping) (e : f ≡ found.Line m) where
+module _ (f : Optional Mapping) (m : Mapping) (e : f ≡ Some m) where
   abbrev by : Bool → Use → Written
   by fallback u = written_by fallback (some (record { point = m.point; code = bytes_of m.code; indicator = indicator_of u }))
 
   chosen : (fallback : Bool) (u : Use) → m.used ≡ u → by fallback u ≡ written_by fallback (line_found f)
-  chosen fallback u q = sym (ap (λ (x : Found). written_by fallback (line_found x)) e ∙ ap (by fallback) q)
+  chosen fallback u q = sym (ap (λ (x : Optional Mapping). written_by fallback (line_found x)) e ∙ ap (by fallback) q)
 
   abbrev Chooses : Bool → WrittenAs → Type 0
   Chooses fallback w = (written_in w ≡ written_by fallback (line_found f)) × OwnCode f w
@@ -72,3 +71,11 @@ module _ (rec : Record) (t : Table) (same-sub : t.subchar ≡ bytes_of rec.subch
     sends-subchar1 z few v q =
         ap (λ (l : List ℕ). substituted substitute l n 0) (unpacked-one (rec.subchar1 - 1) v (omega arith))
         ∙ sends-one (some (rec.subchar1 - 1)) (subchar1-some rec.subchar1 z)
+
+-- subchar1, as the table gives it
+module _ (t : Table) (substitute : Bool) (n : ℕ) (w : WrittenAs) (e : w ≡ written.Subchar1) (b v : ℕ) where
+  pub sends-byte : some b ≡ t.subchar1 → v ≡ b * 16777216 → substituted substitute (unpacked 1 v) n 0 ≡ sent_for t substitute 0 n (written_in w)
+  sends-byte q z =
+      ap (λ (l : List ℕ). substituted substitute l n 0) (unpacked-one b v z)
+      ∙ ap (λ (o : Option ℕ). substituted substitute (sub1_bytes o t.subchar) n 0) q
+      ∙ ap (λ (y : WrittenAs). sent_for t substitute 0 n (written_in y)) (sym e)

@@ -1,4 +1,6 @@
 -- What is carried over, as the functions hold it, and back.
+use Rattle.std.specs.Prelude.{Option as Optional, Some, None}
+use Rattle.utf.specs.declared.utf32.ByteOrder.{ByteOrder}
 use mathlib.Core.Path.{◌≡◌, refl, sym, ap, ◌∙◌}
 use Prim.Native.Nat.{ℕ, zero, suc, ◌≤◌}
 use mathlib.Core.List.{List, [], ◌∷◌}
@@ -18,10 +20,6 @@ use Rattle.table.specs.declared.states.Code.{Code}
 use Rattle.table.proofs.Packing.{packed_none, length-unpacked, unpacked-none, packed-padded, unpacked-packed, pack-unpack}
 use Rattle.convert.specs.Pieces.{Carry, fresh, state_at, place_at, stands_in, stands_as, carry_in, kept_as, is_held}
 use Rattle.convert.specs.PieceClaims.{fresh_kept}
-use Rattle.convert.specs.declared.pieces.MarkPlace.{MarkPlace}
-use Rattle.convert.specs.declared.pieces.MarkPlace.TheVariants.{Ahead, Behind}
-use Rattle.convert.specs.declared.pieces.Standing.{Standing}
-use Rattle.convert.specs.declared.pieces.Standing.TheVariants as stands
 use Rattle.convert.specs.declared.pieces.Kept.{Kept}
 
 -- ## Part by part
@@ -57,23 +55,23 @@ state_at-place_at (suc zero) h = refl
 state_at-place_at (suc (suc zero)) h = refl
 state_at-place_at (suc (suc (suc st))) h = absurd (omega arith)
 
-pub place_at-state_at : (p : MarkPlace) → place_at (state_at p) ≡ p
-place_at-state_at Ahead = refl
-place_at-state_at (Behind Big) = refl
-place_at-state_at (Behind Little) = refl
+pub place_at-state_at : (p : Optional ByteOrder) → place_at (state_at p) ≡ p
+place_at-state_at None = refl
+place_at-state_at (Some Big) = refl
+place_at-state_at (Some Little) = refl
 
-pub state_at-few : (p : MarkPlace) → state_at p ≤ 2
-state_at-few Ahead = omega arith
-state_at-few (Behind Big) = omega arith
-state_at-few (Behind Little) = omega arith
+pub state_at-few : (p : Optional ByteOrder) → state_at p ≤ 2
+state_at-few None = omega arith
+state_at-few (Some Big) = omega arith
+state_at-few (Some Little) = omega arith
 
 pub stands_in-stands_as : (o : Option Stop) → stands_in (stands_as o) ≡ o
 stands_in-stands_as none = refl
 stands_in-stands_as (some w) = refl
 
-pub stands_as-stands_in : (s : Standing) → stands_as (stands_in s) ≡ s
-stands_as-stands_in stands.Nothing = refl
-stands_as-stands_in (stands.Stopped w) = refl
+pub stands_as-stands_in : (s : Optional Stop) → stands_as (stands_in s) ≡ s
+stands_as-stands_in None = refl
+stands_as-stands_in (Some w) = refl
 
 -- ## As a whole
 
@@ -92,7 +90,7 @@ kept_as-carry_in h e = λ i. record {
 }
 
 pub kept_as-fresh : kept_as fresh ≡ fresh_kept
-kept_as-fresh = λ i. record { bytes = record { bits = packed_none i; len = 0 }; mark = Ahead; standing = stands.Nothing }
+kept_as-fresh = λ i. record { bytes = record { bits = packed_none i; len = 0 }; mark = None; standing = None }
 
 pub carry_in-fresh_kept : carry_in fresh_kept ≡ fresh
 carry_in-fresh_kept = λ i. record { bytes = unpacked-none 0 0 (omega arith) i; state = 0; stands = none }

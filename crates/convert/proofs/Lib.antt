@@ -35,3 +35,7 @@ pub mod LoadedText
 pub mod PieceCalls
 pub mod PieceLengths
 mod PieceCases
+pub mod TableSteps
+mod Ways
+mod MarkedOutput
+mod Tested

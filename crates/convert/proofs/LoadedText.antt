@@ -19,7 +19,7 @@ use Rattle.table.specs.Rules.{t9, Keeps}
 use Rattle.table.specs.Slices.{Slices}
 use Rattle.table.specs.Memory.{table_in, Form, Proper}
 use Rattle.table.specs.Valid.{valid}
-use Rattle.table.specs.Load.{Given, read, accepted, loaded_by, given, left_in}
+use Rattle.table.specs.Load.{Given, read, accepted, loaded_by, given, left_in, record_handed}
 use Rattle.table.specs.declared.states.Cut.{Cut}
 use Rattle.table.specs.declared.states.Cut.TheVariants as cut
 use Rattle.table.specs.declared.states.CutStop.TheVariants as cut_stop
@@ -97,11 +97,11 @@ module _ (t : Table) (p : Proper t) (k : Keeps limits t) (rec : Record) (m : Sli
 module _ (text : List ℕ) (old : Slices) (t : Table) where
   abbrev pub to_loaded : Given → Scheme → Settings → List ℕ → ℕ → Run
   to_loaded g e settings x room =
-      let m = left_in limits g old in to_tested e limits (loaded_by g).table m settings x room
+      let m = left_in limits g old in to_tested e limits (record_handed (loaded_by g)) m settings x room
 
   abbrev pub from_loaded : Given → Scheme → Settings → List ℕ → ℕ → Run
   from_loaded g e settings x room =
-      let m = left_in limits g old in from_tested e limits (loaded_by g).table m settings x room
+      let m = left_in limits g old in from_tested e limits (record_handed (loaded_by g)) m settings x room
 
   module _ (loaded : given limits text old ≡ read (accepted t)) where
     made : LoadedForm limits t (given limits text old) old
@@ -109,16 +109,16 @@ module _ (text : List ℕ) (old : Slices) (t : Table) where
 
     pub to-loaded : (e : Scheme) (settings : Settings) (x : List ℕ) (room : ℕ)
         → to_loaded (given limits text old) e settings x room ≡ to_run e t settings x room
-    to-loaded e settings x room = to_held t made.proper made.keeps (loaded_by (given limits text old)).table _ made.form e settings x room
+    to-loaded e settings x room = to_held t made.proper made.keeps (record_handed (loaded_by (given limits text old))) _ made.form e settings x room
 
     pub from-loaded : (e : Scheme) (settings : Settings) (x : List ℕ) (room : ℕ)
         → from_loaded (given limits text old) e settings x room ≡ from_run e t settings x room
     from-loaded e settings x room =
-        from-held t made.proper made.keeps (loaded_by (given limits text old)).table _ made.form e settings x room
+        from-held t made.proper made.keeps (record_handed (loaded_by (given limits text old))) _ made.form e settings x room
 
     -- a complete code round-trips by the text's lines exactly when what the two functions promise there, strict, gives it back
     pub round-trip-loaded : (e : Scheme) (fallback : Bool) (c : List ℕ) → AllByte c → is_code (steps_of t) 0 c ≡ true → (room room' : ℕ) → length (mark_of e) + 4 ≤ room → 4 ≤ room'
-        → RoundTrips t fallback c ↔ RoundTripsByCalls e (loaded_by (given limits text old)).table (left_in limits (given limits text old) old) fallback c room room'
+        → RoundTrips t fallback c ↔ RoundTripsByCalls e (record_handed (loaded_by (given limits text old))) (left_in limits (given limits text old) old) fallback c room room'
     round-trip-loaded e fallback c bytes whole room room' long long' =
         subst (λ (to : List ℕ → ℕ → Run). RoundTrips t fallback c ↔ ThereAndBack to (from_loaded (given limits text old) e (strict fallback)) c room room')
         (λ i x n. sym (to-loaded e (strict fallback) x n) i)

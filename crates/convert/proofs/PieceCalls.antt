@@ -1,4 +1,5 @@
 -- Any list of calls on a frame, and closes behind them, give what the conversion in one piece gives (document 02, request 4).
+use Rattle.std.specs.Prelude.{None}
 use Rattle.std.specs.Prelude.{if◌then◌else◌}
 use mathlib.Core.Path.{◌≡◌, refl, sym, ap, subst, ◌∙◌}
 use Prim.Native.Nat.{ℕ, ◌+◌, ◌-◌, ◌≤◌, ◌<◌}
@@ -40,7 +41,6 @@ use Rattle.convert.specs.declared.RunEnd.TheVariants.{AllRead, OutputFull, Stopp
 use Rattle.convert.specs.declared.Settings.{Settings}
 use Rattle.convert.specs.declared.pieces.Way.{Way}
 use Rattle.convert.specs.declared.pieces.Way.TheVariants.{ToUnicode, FromUnicode}
-use Rattle.convert.specs.declared.pieces.MarkPlace.TheVariants.{Ahead}
 use Rattle.convert.specs.declared.pieces.Kept.{Kept}
 use Rattle.convert.specs.declared.pieces.PieceEnd.{PieceEnd}
 use Rattle.convert.specs.declared.pieces.PieceEnd.TheVariants.{Ended}
@@ -74,7 +74,7 @@ written_by-++ (c ∷ cs) ds = ap (λ (x : List ℕ). c.output ++ x) (written_by-
 
 -- ## The whole, behind its mark
 
-scheme_behind-Ahead : (e : Scheme) → scheme_behind e Ahead ≡ e
+scheme_behind-Ahead : (e : Scheme) → scheme_behind e None ≡ e
 scheme_behind-Ahead scheme.Utf8 = refl
 scheme_behind-Ahead scheme.Utf32Be = refl
 scheme_behind-Ahead scheme.Utf32Le = refl
@@ -99,7 +99,7 @@ module _ (e : Scheme) (t : Table) (settings : Settings) (frame : List ℕ) (room
       }
   behind-mark FromUnicode f =
       let z : room - 0 ≡ room = omega arith in
-      let q = ap (run_of (step_in FromUnicode e t settings) 0 0 frame) z ∙ step_in-from-run e t settings Ahead frame room in
+      let q = ap (run_of (step_in FromUnicode e t settings) 0 0 frame) z ∙ step_in-from-run e t settings None frame room in
       let w = ap (λ (x : Scheme). from_run x t settings frame room) (scheme_behind-Ahead e) in
       record {
         end = sym (ap (λ (r : Run). r.end) q ∙ ap (λ (r : Run). r.end) w);

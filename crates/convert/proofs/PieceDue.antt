@@ -1,6 +1,8 @@
 -- The mark that is due, and the close, as the functions go about them.
 -- piece_behind-none, piece_behind-full, piece_behind-put   a call, by whether the mark is due and fits
 -- close_in-kept, close_in-none, close_in-full, close_in-put   the close
+use Rattle.std.specs.Prelude.{Option as Optional, Some, None}
+use Rattle.utf.specs.declared.utf32.ByteOrder.{ByteOrder}
 use mathlib.Core.Path.{◌≡◌, refl, sym, ap, ◌∙◌}
 use Prim.Native.Nat.{ℕ, ◌-◌, ◌≤◌, ◌<◌}
 use mathlib.Core.Bool.{Bool, true, false}
@@ -29,64 +31,60 @@ use Rattle.convert.specs.declared.RunEnd.TheVariants.{AllRead, OutputFull, Stopp
 use Rattle.convert.specs.declared.Settings.{Settings}
 use Rattle.convert.specs.declared.pieces.Way.{Way}
 use Rattle.convert.specs.declared.pieces.Way.TheVariants.{ToUnicode, FromUnicode}
-use Rattle.convert.specs.declared.pieces.MarkPlace.{MarkPlace}
-use Rattle.convert.specs.declared.pieces.MarkPlace.TheVariants.{Ahead, Behind}
-use Rattle.convert.specs.declared.pieces.Standing.{Standing}
-use Rattle.convert.specs.declared.pieces.Standing.TheVariants as stands
 use Rattle.convert.specs.declared.pieces.Kept.{Kept}
 
 -- no answer stands
-pub is_nothing⇒none : (s : Standing) → is_nothing s ≡ true → stands_in s ≡ none
-is_nothing⇒none stands.Nothing h = refl
-is_nothing⇒none (stands.Stopped w) h = absurd (clash h refl)
+pub is_nothing⇒none : (s : Optional Stop) → is_nothing s ≡ true → stands_in s ≡ none
+is_nothing⇒none None h = refl
+is_nothing⇒none (Some w) h = absurd (clash h refl)
 
 -- a mark that fits among others fits where nothing is kept
-pub mark_fits-untouched : (way : Way) (e : Scheme) (b : Bool) (p : MarkPlace) → mark_fits way e b p ≡ true → mark_fits way e true p ≡ true
+pub mark_fits-untouched : (way : Way) (e : Scheme) (b : Bool) (p : Optional ByteOrder) → mark_fits way e b p ≡ true → mark_fits way e true p ≡ true
 mark_fits-untouched way scheme.Utf8 b p h = h
 mark_fits-untouched way scheme.Utf32Be b p h = h
 mark_fits-untouched way scheme.Utf32Le b p h = h
 mark_fits-untouched FromUnicode scheme.Utf32 b p h = refl
-mark_fits-untouched ToUnicode scheme.Utf32 b Ahead h = refl
-mark_fits-untouched ToUnicode scheme.Utf32 b (Behind Big) h = refl
-mark_fits-untouched ToUnicode scheme.Utf32 b (Behind Little) h = absurd (clash h refl)
+mark_fits-untouched ToUnicode scheme.Utf32 b None h = refl
+mark_fits-untouched ToUnicode scheme.Utf32 b (Some Big) h = refl
+mark_fits-untouched ToUnicode scheme.Utf32 b (Some Little) h = absurd (clash h refl)
 
 -- nothing is due, and the state stays
-none-due : (way : Way) (e : Scheme) (p : MarkPlace) → is_due way e p ≡ false → due_in way e (state_at p) ≡ []
+none-due : (way : Way) (e : Scheme) (p : Optional ByteOrder) → is_due way e p ≡ false → due_in way e (state_at p) ≡ []
 none-due FromUnicode e p h = refl
-none-due ToUnicode scheme.Utf8 Ahead h = refl
-none-due ToUnicode scheme.Utf32Be Ahead h = refl
-none-due ToUnicode scheme.Utf32Le Ahead h = refl
-none-due ToUnicode scheme.Utf32 Ahead h = absurd (clash refl h)
-none-due ToUnicode e (Behind Big) h = refl
-none-due ToUnicode e (Behind Little) h = refl
+none-due ToUnicode scheme.Utf8 None h = refl
+none-due ToUnicode scheme.Utf32Be None h = refl
+none-due ToUnicode scheme.Utf32Le None h = refl
+none-due ToUnicode scheme.Utf32 None h = absurd (clash refl h)
+none-due ToUnicode e (Some Big) h = refl
+none-due ToUnicode e (Some Little) h = refl
 
-none-moved : (way : Way) (e : Scheme) (p : MarkPlace) → is_due way e p ≡ false → mark_fits way e true p ≡ true → due_state way e (state_at p) ≡ state_at p
+none-moved : (way : Way) (e : Scheme) (p : Optional ByteOrder) → is_due way e p ≡ false → mark_fits way e true p ≡ true → due_state way e (state_at p) ≡ state_at p
 none-moved FromUnicode e p h m = refl
 none-moved ToUnicode scheme.Utf8 p h m = refl
 none-moved ToUnicode scheme.Utf32Be p h m = refl
 none-moved ToUnicode scheme.Utf32Le p h m = refl
-none-moved ToUnicode scheme.Utf32 Ahead h m = absurd (clash refl h)
-none-moved ToUnicode scheme.Utf32 (Behind Big) h m = refl
-none-moved ToUnicode scheme.Utf32 (Behind Little) h m = absurd (clash m refl)
+none-moved ToUnicode scheme.Utf32 None h m = absurd (clash refl h)
+none-moved ToUnicode scheme.Utf32 (Some Big) h m = refl
+none-moved ToUnicode scheme.Utf32 (Some Little) h m = absurd (clash m refl)
 
 -- the mark of plain UTF-32 is due
-mark-due : (way : Way) (e : Scheme) (p : MarkPlace) → is_due way e p ≡ true → due_in way e (state_at p) ≡ mark_in Big
-mark-due FromUnicode e Ahead h = absurd (clash h refl)
-mark-due FromUnicode e (Behind o) h = absurd (clash h refl)
-mark-due ToUnicode scheme.Utf8 Ahead h = absurd (clash h refl)
-mark-due ToUnicode scheme.Utf32Be Ahead h = absurd (clash h refl)
-mark-due ToUnicode scheme.Utf32Le Ahead h = absurd (clash h refl)
-mark-due ToUnicode scheme.Utf32 Ahead h = refl
-mark-due ToUnicode e (Behind o) h = absurd (clash h refl)
+mark-due : (way : Way) (e : Scheme) (p : Optional ByteOrder) → is_due way e p ≡ true → due_in way e (state_at p) ≡ mark_in Big
+mark-due FromUnicode e None h = absurd (clash h refl)
+mark-due FromUnicode e (Some o) h = absurd (clash h refl)
+mark-due ToUnicode scheme.Utf8 None h = absurd (clash h refl)
+mark-due ToUnicode scheme.Utf32Be None h = absurd (clash h refl)
+mark-due ToUnicode scheme.Utf32Le None h = absurd (clash h refl)
+mark-due ToUnicode scheme.Utf32 None h = refl
+mark-due ToUnicode e (Some o) h = absurd (clash h refl)
 
-mark-moves : (way : Way) (e : Scheme) (p : MarkPlace) → is_due way e p ≡ true → due_state way e (state_at p) ≡ state_at (Behind Big)
-mark-moves FromUnicode e Ahead h = absurd (clash h refl)
-mark-moves FromUnicode e (Behind o) h = absurd (clash h refl)
-mark-moves ToUnicode scheme.Utf8 Ahead h = absurd (clash h refl)
-mark-moves ToUnicode scheme.Utf32Be Ahead h = absurd (clash h refl)
-mark-moves ToUnicode scheme.Utf32Le Ahead h = absurd (clash h refl)
-mark-moves ToUnicode scheme.Utf32 Ahead h = refl
-mark-moves ToUnicode e (Behind o) h = absurd (clash h refl)
+mark-moves : (way : Way) (e : Scheme) (p : Optional ByteOrder) → is_due way e p ≡ true → due_state way e (state_at p) ≡ state_at (Some Big)
+mark-moves FromUnicode e None h = absurd (clash h refl)
+mark-moves FromUnicode e (Some o) h = absurd (clash h refl)
+mark-moves ToUnicode scheme.Utf8 None h = absurd (clash h refl)
+mark-moves ToUnicode scheme.Utf32Be None h = absurd (clash h refl)
+mark-moves ToUnicode scheme.Utf32Le None h = absurd (clash h refl)
+mark-moves ToUnicode scheme.Utf32 None h = refl
+mark-moves ToUnicode e (Some o) h = absurd (clash h refl)
 
 pub length-mark : length (mark_in Big) ≡ 4
 length-mark = length-encode_in Big 0xfeff
@@ -121,7 +119,7 @@ module _ (way : Way) (e : Scheme) (k : Kept) where
       piece_behind-full l = sym (pick_no (leb (length due) room) _ _ (lt-leb (length due) room (omega (arith, long))))
 
       pub piece_behind-put : 4 ≤ room
-          → led (mark_in Big) (piece_on (step_in way e t settings) (carry_of (bytes_of k.bytes) (Behind Big)) piece (room - 4)) ≡ piece_behind way e t settings (carry_in k) piece room
+          → led (mark_in Big) (piece_on (step_in way e t settings) (carry_of (bytes_of k.bytes) (Some Big)) piece (room - 4)) ≡ piece_behind way e t settings (carry_in k) piece room
       unfolding piece_behind
       piece_behind-put l =
           sym (pick_yes (leb (length due) room) _ _ (le-leb (length due) room (omega (arith, long)))

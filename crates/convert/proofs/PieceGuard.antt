@@ -1,4 +1,5 @@
 -- A call on any memory: 60, 42, the answer that stands, and the rest.
+use Rattle.std.specs.Prelude.{Some}
 use mathlib.Core.Path.{◌≡◌, refl, sym, ap, ◌∙◌}
 use Prim.Native.Nat.{ℕ, ◌<◌}
 use mathlib.Core.Bool.{Bool, true, false}
@@ -25,7 +26,6 @@ use Rattle.convert.specs.declared.RunEnd.TheVariants.{BadTable, Stopped}
 use Rattle.convert.specs.declared.Settings.{Settings}
 use Rattle.convert.specs.declared.pieces.Way.{Way}
 use Rattle.convert.specs.declared.pieces.Way.TheVariants.{ToUnicode, FromUnicode}
-use Rattle.convert.specs.declared.pieces.Standing.TheVariants as stands
 use Rattle.convert.specs.declared.pieces.Kept.{Kept}
 use Rattle.convert.specs.declared.pieces.PieceEnd.TheVariants.{Ended, BadKept}
 use Rattle.convert.specs.declared.pieces.Pieced.{Pieced}
@@ -76,7 +76,7 @@ module _ (rec : Record) (m : Slices) (ok : valid limits rec m ≡ true) where
           false
 
 -- an answer that stands is given again, and nothing changes
-pub guarded-stands : (way : Way) (e : Scheme) (rec : Record) (m : Slices) (settings : Settings) (k : Kept) (w : Stop) → k.standing ≡ stands.Stopped w
+pub guarded-stands : (way : Way) (e : Scheme) (rec : Record) (m : Slices) (settings : Settings) (k : Kept) (w : Stop) → k.standing ≡ Some w
     → valid limits rec m ≡ true → kept_fits way e (steps_of (table_in rec m)) settings k ≡ true
     → (r : PieceRun) → piece_guarded way e limits rec m settings k (unless (stands_in k.standing) (carry_in k) r) ≡ refused_piece (Ended (Stopped w)) k
 guarded-stands way e rec m settings k w q h f r =

@@ -2,6 +2,7 @@
 -- illegal-fits      the length of an illegal sequence, beside the bytes of it that were kept
 -- begun-[], begun-cut, begun-on      what is kept begins a sequence, or is what skipping in UTF-8 left of one
 -- begun-short-to, begun-short-from   what begins a sequence is cut short
+use Rattle.std.specs.Prelude.{Option}
 use mathlib.Core.Path.{◌≡◌, refl, sym, ap, subst, ◌∙◌}
 use Prim.Native.Nat.{ℕ, zero, suc, ◌+◌, ◌-◌, ◌*◌, ◌%◌, ◌≤◌, ◌<◌}
 use mathlib.Core.List.{List, [], ◌∷◌, ◌++◌}
@@ -237,7 +238,7 @@ trails-trail (suc k) lo hi v n (x ∷ s) a b e =
 
 lead-trail : (b : ℕ) (s : List ℕ) → after_lead (lead_of b) s ≡ sequence.Stopped stopped.CutShort → All Trail s
 lead-trail b s =
-    lead-case (λ (l : Lead). after_lead l s ≡ sequence.Stopped stopped.CutShort → All Trail s) b
+    lead-case (λ (l : Option Lead). after_lead l s ≡ sequence.Stopped stopped.CutShort → All Trail s) b
     (λ u. trails-trail 0 0x80 0xbf (b - 0) 1 s (omega arith) (omega arith))
     (λ u e. absurd (let z : ◌≡◌ {A = ℕ} 0 1 = cc in omega arith))
     (λ u. trails-trail 1 0x80 0xbf (b - 0xc0) 1 s (omega arith) (omega arith))

@@ -1,5 +1,6 @@
 -- The length beside a 52 that stands is at most four, so it fits into 32 bits.
 -- piece-few, close-few   of every call that is not refused
+use Rattle.std.specs.Prelude.{Option as Optional, Some, None}
 use mathlib.Core.Path.{◌≡◌, refl, sym, subst}
 use Prim.Native.Nat.{ℕ, ◌≤◌}
 use mathlib.Core.Bool.{Bool, true, false}
@@ -32,8 +33,6 @@ use Rattle.convert.specs.declared.RunEnd.TheVariants.{AllRead, OutputFull, BadTa
 use Rattle.convert.specs.declared.Settings.{Settings}
 use Rattle.convert.specs.declared.pieces.Way.{Way}
 use Rattle.convert.specs.declared.pieces.Way.TheVariants.{ToUnicode, FromUnicode}
-use Rattle.convert.specs.declared.pieces.Standing.{Standing}
-use Rattle.convert.specs.declared.pieces.Standing.TheVariants as stands
 use Rattle.convert.specs.declared.pieces.Kept.{Kept}
 use Rattle.convert.proofs.Whole.{stops-there}
 use Rattle.convert.proofs.PieceSteps.{step_in-sound}
@@ -55,11 +54,11 @@ fits-few ToUnicode e n m =
     (λ q. pick-case (λ (b : Bool). b ≡ true → m ≤ 4) (leb n m) (leb m 4) false (λ r h. leb-true m 4 h) (λ r h. absurd (clash h refl)))
     (λ q h. absurd (clash h refl))
 
-stands-few : (way : Way) (e : Scheme) (n : ℕ) (s : Standing) → stands_fit way e n s ≡ true → FewBytes s
-stands-few way e n stands.Nothing h = tt
-stands-few way e n (stands.Stopped stopped.CutShort) h = tt
-stands-few way e n (stands.Stopped (stopped.Illegal m)) h = fits-few way e n m h
-stands-few way e n (stands.Stopped stopped.Unassigned) h = tt
+stands-few : (way : Way) (e : Scheme) (n : ℕ) (s : Optional Stop) → stands_fit way e n s ≡ true → FewBytes s
+stands-few way e n None h = tt
+stands-few way e n (Some stopped.CutShort) h = tt
+stands-few way e n (Some (stopped.Illegal m)) h = fits-few way e n m h
+stands-few way e n (Some stopped.Unassigned) h = tt
 
 abbrev Few : Option Stop → Type 0
 Few o = FewBytes (stands_as o)

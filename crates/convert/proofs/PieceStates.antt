@@ -1,5 +1,7 @@
 -- What is kept between the calls of a conversion in pieces, behind the mark: it passes the test behind 42, and a call keeps it so.
 -- Contents: bytes; the state behind the mark (`StateFits`); what is kept (`Held`, `Passes`).
+use Rattle.std.specs.Prelude.{Option as Optional, None}
+use Rattle.utf.specs.declared.utf32.ByteOrder.{ByteOrder}
 use mathlib.Core.Path.{◌≡◌, refl, sym, ap, subst, ◌∙◌}
 use Prim.Native.Nat.{ℕ, ◌≤◌}
 use mathlib.Core.List.{List, [], ◌∷◌, ◌++◌}
@@ -29,8 +31,6 @@ use Rattle.convert.specs.declared.RunEnd.TheVariants.{Stopped}
 use Rattle.convert.specs.declared.Settings.{Settings}
 use Rattle.convert.specs.declared.pieces.Way.{Way}
 use Rattle.convert.specs.declared.pieces.Way.TheVariants.{ToUnicode, FromUnicode}
-use Rattle.convert.specs.declared.pieces.MarkPlace.{MarkPlace}
-use Rattle.convert.specs.declared.pieces.MarkPlace.TheVariants.{Ahead}
 use Rattle.convert.proofs.SkippedRuns.{bytes-behind}
 use Rattle.convert.proofs.PieceRuns.{run-ends-as, is_cut_short-yes, Fit, piece_on-stands}
 use Rattle.convert.proofs.KeptForms.{bytes_of-code_of, is_held-code_of, state_at-place_at, state_at-few}
@@ -97,7 +97,7 @@ StateFits⇒mark_fits way scheme.Utf32Le st h b = ap (λ (x : ℕ). is_ahead (pl
 StateFits⇒mark_fits ToUnicode scheme.Utf32 st h b = ap (λ (x : ℕ). plain_mark_fits ToUnicode b (place_at x)) h
 StateFits⇒mark_fits FromUnicode scheme.Utf32 st h b = refl
 
-mark_fits-fresh : (way : Way) (e : Scheme) → mark_fits way e true Ahead ≡ true
+mark_fits-fresh : (way : Way) (e : Scheme) → mark_fits way e true None ≡ true
 mark_fits-fresh way scheme.Utf8 = refl
 mark_fits-fresh way scheme.Utf32Be = refl
 mark_fits-fresh way scheme.Utf32Le = refl
@@ -105,7 +105,7 @@ mark_fits-fresh ToUnicode scheme.Utf32 = refl
 mark_fits-fresh FromUnicode scheme.Utf32 = refl
 
 module _ (t : Table) (settings : Settings) (s : List ℕ) (room : ℕ) where
-  at_place : (e : Scheme) (p : MarkPlace) → StateFits FromUnicode e (state_at p)
+  at_place : (e : Scheme) (p : Optional ByteOrder) → StateFits FromUnicode e (state_at p)
       → StateFits FromUnicode e (run_of (step_in FromUnicode e t settings) (state_at p) 0 s room).state
   at_place scheme.Utf8 p h = ap (λ (r : Run). r.state) (step_in-from-run scheme.Utf8 t settings p s room) ∙ h
   at_place scheme.Utf32Be p h = ap (λ (r : Run). r.state) (step_in-from-run scheme.Utf32Be t settings p s room) ∙ h

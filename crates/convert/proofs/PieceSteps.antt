@@ -2,6 +2,8 @@
 -- step_in-sound      some bytes, in the input, the same under more input
 -- step_in-to-run     towards Unicode the run is that of the side, and the state stays
 -- step_in-from-run   from Unicode it is that of the scheme behind the mark's place, and the state is the mark's place then
+use Rattle.std.specs.Prelude.{Option as Optional}
+use Rattle.std.specs.Prelude.{Option, Some, None}
 use mathlib.Core.Path.{◌≡◌, refl, sym, ap, ◌∙◌}
 use Prim.Native.Nat.{ℕ, zero, suc, ◌+◌, ◌-◌, ◌≤◌, ◌<◌}
 use mathlib.Core.List.{List, [], ◌∷◌, ◌++◌}
@@ -18,8 +20,6 @@ use Rattle.utf.specs.declared.utf8.Stop.{Stop}
 use Rattle.utf.specs.declared.utf8.Stop.TheVariants as stopped
 use Rattle.utf.specs.declared.utf32.ByteOrder.{ByteOrder}
 use Rattle.utf.specs.declared.utf32.ByteOrder.TheVariants.{Big, Little}
-use Rattle.utf.specs.declared.utf32.Mark.{Mark}
-use Rattle.utf.specs.declared.utf32.Mark.TheVariants as mark
 use Rattle.utf.specs.declared.scheme.Scheme.{Scheme}
 use Rattle.utf.specs.declared.scheme.Scheme.TheVariants as scheme
 use Rattle.utf.proofs.FourBytes.{utf32-same, utf32-cut-short, mark_at⇒long}
@@ -32,8 +32,6 @@ use Rattle.convert.specs.declared.RunEnd.TheVariants.{OutputFull}
 use Rattle.convert.specs.declared.Settings.{Settings}
 use Rattle.convert.specs.declared.pieces.Way.{Way}
 use Rattle.convert.specs.declared.pieces.Way.TheVariants.{ToUnicode, FromUnicode}
-use Rattle.convert.specs.declared.pieces.MarkPlace.{MarkPlace}
-use Rattle.convert.specs.declared.pieces.MarkPlace.TheVariants.{Ahead, Behind}
 use Rattle.convert.specs.loops.Inner.{Sound, Stays}
 use Rattle.convert.specs.loops.Carried.{with_state, scheme_behind, place_behind, mark_after}
 use Rattle.convert.proofs.Runs.{run_more}
@@ -108,7 +106,7 @@ module _ (a step : SequenceStep) (stays : Stays step) (st : ℕ) (is : (s : List
 pub mark_at-++ : (s t : List ℕ) → 4 ≤ length s → mark_at (s ++ t) ≡ mark_at s
 unfolding mark_at
 mark_at-++ s t h =
-    λ i. pick (is_mark (utf32-same Big s t h i)) (mark.Of Big) (pick (is_mark (utf32-same Little s t h i)) (mark.Of Little) mark.None)
+    λ i. pick (is_mark (utf32-same Big s t h i)) (Some Big) (pick (is_mark (utf32-same Little s t h i)) (Some Little) None)
 
 abbrev plain_of : (Side → SequenceStep) → SequenceStep
 plain_of step = plain_step (λ order. step (utf32 order))
@@ -122,16 +120,16 @@ module _ (step : Side → SequenceStep) (so : (order : ByteOrder) → Sound (ste
       (λ q. absurd (h (sym e ∙ short Big s (ltb-true (length s) 4 q))))
       (λ q. ltb-false (length s) 4 q)
 
-  mark-sound : (k : Mark) (s bs : List ℕ) (n next : ℕ) → mark_at s ≡ k → by_mark k (step (utf32 Big) 0 s) ≡ give bs n next → SoundAt (plain_of step) 0 s bs n next
-  mark-sound (mark.Of order) s bs n next q e =
+  mark-sound : (k : Option ByteOrder) (s bs : List ℕ) (n next : ℕ) → mark_at s ≡ k → by_mark k (step (utf32 Big) 0 s) ≡ give bs n next → SoundAt (plain_of step) 0 s bs n next
+  mark-sound (Some order) s bs n next q e =
       let long = mark_at⇒long order s q in
       let c : 4 ≡ n = cc in
-      (omega arith, omega arith, λ t. ap (λ (k : Mark). by_mark k (step (utf32 Big) 0 (s ++ t))) (mark_at-++ s t long ∙ q) ∙ e)
-  mark-sound mark.None s bs n next q e =
+      (omega arith, omega arith, λ t. ap (λ (k : Option ByteOrder). by_mark k (step (utf32 Big) 0 (s ++ t))) (mark_at-++ s t long ∙ q) ∙ e)
+  mark-sound None s bs n next q e =
       let k = in_state-give⁻ 1 (step (utf32 Big) 0 s) bs n next e in
       let long = long-given s (give bs n k.1.0) k.1.1 (λ z. let z : ◌≡◌ {A = ℕ} 0 1 = cc in omega arith) in
       let r = sound-at (plain_of step) (step (utf32 Big)) 1 1 (λ x. refl) (so Big) s bs n next e in
-      (r.0, r.1, λ t. ap (λ (k : Mark). by_mark k (step (utf32 Big) 0 (s ++ t))) (mark_at-++ s t long ∙ q) ∙ r.2 t)
+      (r.0, r.1, λ t. ap (λ (k : Option ByteOrder). by_mark k (step (utf32 Big) 0 (s ++ t))) (mark_at-++ s t long ∙ q) ∙ r.2 t)
 
   plain-gives : (st : ℕ) (s bs : List ℕ) (n next : ℕ) → plain_of step st s ≡ give bs n next → SoundAt (plain_of step) st s bs n next
   plain-gives zero s bs n next e = mark-sound (mark_at s) s bs n next refl e
@@ -141,10 +139,10 @@ module _ (step : Side → SequenceStep) (so : (order : ByteOrder) → Sound (ste
 -- the run from the state before the mark
 pick-ahead : (c : Bool) (n : ℕ) (bs : List ℕ) (r : Run) (order : ByteOrder) → 0 < n
     → let q = pick c (after n bs r) (ended_with OutputFull 0) in
-    pick c (after n bs (with_state (state_of order) r)) (ended_with OutputFull 0) ≡ with_state (state_at (pick (eqb q.read 0) Ahead (Behind order))) q
+    pick c (after n bs (with_state (state_of order) r)) (ended_with OutputFull 0) ≡ with_state (state_at (pick (eqb q.read 0) None (Some order))) q
 pick-ahead true n bs r order h =
     let z : n + r.read ≡ 0 → ⊥ = λ e. omega arith in
-    ap (λ (p : MarkPlace). with_state (state_at p) (after n bs r)) (sym (pick_no (eqb (n + r.read) 0) Ahead (Behind order) (ne_eqb (n + r.read) 0 z)))
+    ap (λ (p : Optional ByteOrder). with_state (state_at p) (after n bs r)) (sym (pick_no (eqb (n + r.read) 0) None (Some order) (ne_eqb (n + r.read) 0 z)))
 pick-ahead false n bs r order h = refl
 
 module _ (step : Side → SequenceStep) (so : (order : ByteOrder) → Sound (step (utf32 order))) (stays : (order : ByteOrder) → Stays (step (utf32 order))) where
@@ -155,7 +153,7 @@ module _ (step : Side → SequenceStep) (so : (order : ByteOrder) → Sound (ste
 
   run-first : (b : ℕ) (t : List ℕ) (room : ℕ) (g : Gives) → step (utf32 Big) 0 (b ∷ t) ≡ g
       → let r = on_gives g 0 room (λ next n x. run_of (step (utf32 Big)) next n t x) in
-      on_gives (in_state 1 g) 0 room (λ next n x. run_of (plain_of step) next n t x) ≡ with_state (state_at (pick (eqb r.read 0) Ahead (Behind Big))) r
+      on_gives (in_state 1 g) 0 room (λ next n x. run_of (plain_of step) next n t x) ≡ with_state (state_at (pick (eqb r.read 0) None (Some Big))) r
   run-first b t room (stop w) e = refl
   run-first b t room (give bs n next) e =
       let x = room - length bs in
@@ -164,17 +162,17 @@ module _ (step : Side → SequenceStep) (so : (order : ByteOrder) → Sound (ste
       (run-behind Big t (n - 1) x ∙ ap (λ (j : ℕ). with_state 1 (run_of (step (utf32 Big)) j (n - 1) t x)) z)
       ∙ pick-ahead (leb (length bs) room) n bs (run_of (step (utf32 Big)) next (n - 1) t x) Big ((so Big).some 0 (b ∷ t) bs n next e)
 
-  run-ahead : (k : Mark) (s : List ℕ) (room : ℕ) → mark_at s ≡ k → let r = behind_mark k (λ u x y. run_of (step u) 0 0 x y) s room in
-      run_of (plain_of step) 0 0 s room ≡ with_state (state_at (pick (eqb r.read 0) Ahead (place_behind k))) r
-  run-ahead (mark.Of order) s room q =
+  run-ahead : (k : Option ByteOrder) (s : List ℕ) (room : ℕ) → mark_at s ≡ k → let r = behind_mark k (λ u x y. run_of (step u) 0 0 x y) s room in
+      run_of (plain_of step) 0 0 s room ≡ with_state (state_at (pick (eqb r.read 0) None (place_behind k))) r
+  run-ahead (Some order) s room q =
       let long = mark_at⇒long order s q in
       let z : room - 0 ≡ room = omega arith in
-      run_more (plain_of step) 0 s room (omega arith) [] 4 (state_of order) (ap (λ (k : Mark). by_mark k (step (utf32 Big) 0 s)) q) (omega arith) (omega arith)
+      run_more (plain_of step) 0 s room (omega arith) [] 4 (state_of order) (ap (λ (k : Option ByteOrder). by_mark k (step (utf32 Big) 0 s)) q) (omega arith) (omega arith)
       ∙ ap (after 4 []) (run-behind order (drop 4 s) 0 (room - 0) ∙ ap (λ (x : ℕ). with_state (state_of order) (run_of (step (utf32 order)) 0 0 (drop 4 s) x)) z)
       ∙ pick-ahead true 4 [] (run_of (step (utf32 order)) 0 0 (drop 4 s) room) order (omega arith)
-  run-ahead mark.None [] room q = refl
-  run-ahead mark.None (b ∷ t) room q =
-      ap (λ (k : Mark). on_gives (by_mark k (step (utf32 Big) 0 (b ∷ t))) 0 room (λ next n x. run_of (plain_of step) next n t x)) q
+  run-ahead None [] room q = refl
+  run-ahead None (b ∷ t) room q =
+      ap (λ (k : Option ByteOrder). on_gives (by_mark k (step (utf32 Big) 0 (b ∷ t))) 0 room (λ next n x. run_of (plain_of step) next n t x)) q
       ∙ run-first b t room (step (utf32 Big) 0 (b ∷ t)) refl
 
 -- ## Either way
@@ -225,16 +223,16 @@ run-kept : (u : Side) (t : Table) (settings : Settings) (st : ℕ) (s : List ℕ
     → run_of (keep_state (from_step u t settings)) st 0 s room ≡ with_state st (run_of (from_step u t settings) 0 0 s room)
 run-kept u t settings st s room = run-in_state (keep_state (from_step u t settings)) (from_step u t settings) (from-stays u t settings) st (λ x. refl) s 0 room
 
-pub step_in-from-run : (e : Scheme) (t : Table) (settings : Settings) (p : MarkPlace) (s : List ℕ) (room : ℕ)
+pub step_in-from-run : (e : Scheme) (t : Table) (settings : Settings) (p : Optional ByteOrder) (s : List ℕ) (room : ℕ)
     → let r = from_run (scheme_behind e p) t settings s room in
     run_of (step_in FromUnicode e t settings) (state_at p) 0 s room ≡ with_state (state_at (mark_after e p s r.read)) r
 unfolding step_in
 step_in-from-run scheme.Utf8 t settings p s room = run-kept (side_of scheme.Utf8) t settings (state_at p) s room
 step_in-from-run scheme.Utf32Be t settings p s room = run-kept (utf32 Big) t settings (state_at p) s room
 step_in-from-run scheme.Utf32Le t settings p s room = run-kept (utf32 Little) t settings (state_at p) s room
-step_in-from-run scheme.Utf32 t settings (Behind Big) s room =
+step_in-from-run scheme.Utf32 t settings (Some Big) s room =
     run-behind (λ u. from_step u t settings) (from_each t settings) (λ order. from-stays (utf32 order) t settings) Big s 0 room
-step_in-from-run scheme.Utf32 t settings (Behind Little) s room =
+step_in-from-run scheme.Utf32 t settings (Some Little) s room =
     run-behind (λ u. from_step u t settings) (from_each t settings) (λ order. from-stays (utf32 order) t settings) Little s 0 room
-step_in-from-run scheme.Utf32 t settings Ahead s room =
+step_in-from-run scheme.Utf32 t settings None s room =
     run-ahead (λ u. from_step u t settings) (from_each t settings) (λ order. from-stays (utf32 order) t settings) (mark_at s) s room refl

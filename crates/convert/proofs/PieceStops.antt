@@ -3,6 +3,7 @@
 -- step_in-four-to, step_in-four-from   a sequence gives at most four bytes
 -- to-short⁻, to-short⁺, from-short⁻, plain-cut   what is cut short, by the states and by the decoder
 -- from_step_in-case   a sequence of a scheme is one of its sides, or a mark      seen-beyond   what a beginning does not show
+use Rattle.std.specs.Prelude.{Option as Optional, Some, None}
 use mathlib.Core.Path.{◌≡◌, refl, sym, ap, ◌∙◌}
 use Prim.Native.Nat.{ℕ, zero, suc, ◌≤◌, ◌<◌}
 use mathlib.Core.List.{List, [], ◌++◌}
@@ -23,8 +24,6 @@ use Rattle.utf.specs.declared.utf8.Sequence.{Sequence}
 use Rattle.utf.specs.declared.utf8.Sequence.TheVariants as sequence
 use Rattle.utf.specs.declared.utf32.ByteOrder.{ByteOrder}
 use Rattle.utf.specs.declared.utf32.ByteOrder.TheVariants.{Big, Little}
-use Rattle.utf.specs.declared.utf32.Mark.{Mark}
-use Rattle.utf.specs.declared.utf32.Mark.TheVariants as mark
 use Rattle.utf.specs.declared.scheme.Scheme.{Scheme}
 use Rattle.utf.specs.declared.scheme.Scheme.TheVariants as scheme
 use Rattle.utf.proofs.MoreInput.{more-input-same, short-fills}
@@ -39,7 +38,7 @@ use Rattle.table.specs.Rules.{Keeps}
 use Rattle.table.specs.declared.states.Cut.{Cut}
 use Rattle.table.specs.declared.states.Cut.TheVariants as cut
 use Rattle.table.specs.declared.states.CutStop.TheVariants as cut_stop
-use Rattle.table.proofs.Cuts.{cut-more, cut-within, cut-short-leads, no-ends-zero}
+use Rattle.table.proofs.Cuts.{cut-more, cut-within, cut-short-leads}
 use Rattle.convert.specs.Run.{Gives, give, stop, SequenceStep}
 use Rattle.convert.specs.Step.{skipped, point_for, on_cut, to_sequence, to_plain, to_step}
 use Rattle.convert.specs.Step.{Written, code, subchar1, nothing, writes, sent_for, on_sequence, from_plain, from_step}
@@ -102,7 +101,7 @@ module _ (t : Table) (settings : Settings) (row : ℕ) where
       ap (on_cut t settings.substitute (s ++ r)) (m ∙ q) ∙ sym (ap (on_cut t settings.substitute s) q)
   same_by s r (cut.Complete n kind) q h =
       let m = cut-more (steps_of t) row longest row 0 s r (λ z. h (sym q ∙ z)) in
-      let w = cut-within (steps_of t) (no-ends-zero t.rows) s row n kind q in
+      let w = cut-within (steps_of t) s row n kind q in
       to-complete t settings row (s ++ r) n kind (m ∙ q)
       ∙ ap (λ (x : List ℕ). point_for t.subchar1 settings.substitute n (reader x t.lines)) (take-append-le n s r w.2)
       ∙ sym (to-complete t settings row s n kind q)
@@ -169,14 +168,14 @@ module _ (u : Side) (t : Table) (settings : Settings) (row : ℕ) where
 
 -- a sequence of a scheme: on one of its sides, from row 0 on, or a mark
 module _ (t : Table) (settings : Settings) (s : List ℕ) (P : Gives → Type 0) where
-  mark-case : (k : Mark) → mark_at s ≡ k → P (in_state 1 (from_step (utf32 Big) t settings 0 s))
-      → ((order : ByteOrder) → mark_at s ≡ mark.Of order → P (give [] 4 (state_of order)))
+  mark-case : (k : Optional ByteOrder) → mark_at s ≡ k → P (in_state 1 (from_step (utf32 Big) t settings 0 s))
+      → ((order : ByteOrder) → mark_at s ≡ Some order → P (give [] 4 (state_of order)))
       → P (by_mark k (from_step (utf32 Big) t settings 0 s))
-  mark-case mark.None q plain marked = plain
-  mark-case (mark.Of order) q plain marked = marked order q
+  mark-case None q plain marked = plain
+  mark-case (Some order) q plain marked = marked order q
 
   pub from_step_in-case : (e : Scheme) (st : ℕ) → ((u : Side) (m : ℕ) → ShortSide u → u.unit ≡ (side_of e).unit → P (in_state m (from_step u t settings 0 s)))
-      → ((order : ByteOrder) → mark_at s ≡ mark.Of order → P (give [] 4 (state_of order)))
+      → ((order : ByteOrder) → mark_at s ≡ Some order → P (give [] 4 (state_of order)))
       → P (from_step_in e t settings st s)
   from_step_in-case scheme.Utf8 st plain marked = plain utf8 st utf8-short refl
   from_step_in-case scheme.Utf32Be st plain marked = plain (utf32 Big) st (utf32-short Big) refl

@@ -1,4 +1,7 @@
 -- The tests behind 42, one by one, as the functions make them.
+use Rattle.std.specs.Prelude.{None}
+use Rattle.std.specs.Prelude.{Option}
+use Rattle.utf.specs.declared.utf32.ByteOrder.{ByteOrder}
 use mathlib.Core.Path.{◌≡◌, refl, sym, ap, ◌∙◌}
 use Prim.Native.Nat.{ℕ}
 use mathlib.Core.Bool.{Bool, true, false}
@@ -13,14 +16,12 @@ use Rattle.lists.proofs.Laws.{clash}
 use Rattle.lists.proofs.Cases.{pick_yes, pick_no, pick-case}
 use Rattle.utf.specs.Utf32.{mark_at}
 use Rattle.utf.specs.declared.scheme.Scheme.{Scheme}
-use Rattle.utf.specs.declared.utf32.Mark.{Mark}
 use Rattle.table.specs.States.{Rows}
 use Rattle.table.specs.Codes.{bytes_of}
 use Rattle.convert.specs.Pieces.{trailing, begun, is_held, is_nothing, mark_fits, stands_fit, kept_fits}
 use Rattle.convert.specs.loops.Carried.{place_behind, plain_after}
 use Rattle.convert.specs.declared.Settings.{Settings}
 use Rattle.convert.specs.declared.pieces.Way.{Way}
-use Rattle.convert.specs.declared.pieces.MarkPlace.TheVariants.{Ahead}
 use Rattle.convert.specs.declared.pieces.Kept.{Kept}
 
 -- trail bytes, by how many there are
@@ -42,7 +43,7 @@ trailing-none (a ∷ b ∷ []) h k = absurd (k refl)
 trailing-none (a ∷ b ∷ c ∷ s) h k = refl
 
 -- the mark, where something is read
-pub plain_after-read : (s : List ℕ) (n : ℕ) (m : Mark) → (n ≡ 0 → ⊥) → mark_at s ≡ m → place_behind m ≡ plain_after Ahead s n
+pub plain_after-read : (s : List ℕ) (n : ℕ) (m : Option ByteOrder) → (n ≡ 0 → ⊥) → mark_at s ≡ m → place_behind m ≡ plain_after None s n
 plain_after-read s n m h e = sym (pick_no (eqb n 0) _ _ (ne_eqb n 0 h) ∙ ap place_behind e)
 
 -- the test behind 42, by its parts

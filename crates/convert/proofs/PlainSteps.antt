@@ -34,7 +34,7 @@ use Rattle.table.specs.Rules.{t6}
 use Rattle.table.specs.declared.states.Cut.{Cut}
 use Rattle.table.specs.declared.states.Cut.TheVariants as cut
 use Rattle.table.specs.declared.states.CutStop.TheVariants as cut_stop
-use Rattle.table.proofs.Cuts.{cut-complete, cut-code, cut-within, cut-more, no-ends-zero}
+use Rattle.table.proofs.Cuts.{cut-complete, cut-code, cut-within, cut-more}
 use Rattle.table.proofs.Broken.{illegal-some, illegal-inside}
 use Rattle.table.proofs.FormLines.{reader-keeps}
 use Rattle.convert.specs.Run.{give, stop}
@@ -42,6 +42,7 @@ use Rattle.convert.specs.Step.{substitute_point, point_for, on_cut, to_sequence,
 use Rattle.convert.specs.declared.Settings.{Settings}
 use Rattle.lists.specs.Tests.{all_of}
 use Rattle.convert.specs.loops.Inner.{Sound, Settled, GivesAlone, Stays, LawfulSide}
+use Rattle.table.specs.declared.states.EndKind.{EndKind}
 
 -- what decodes in UTF-8 is the encoding of its value
 utf8-alone : (s : List ℕ) (c n : ℕ) → decode_one s ≡ sequence.Scalar c n → decode_one (take n s) ≡ sequence.Scalar c n
@@ -105,7 +106,7 @@ lawful scheme.Utf32 = utf32-lawful Big
 
 -- TO UNICODE. A code point was read from a complete code of one to four bytes
 pub record ReadFrom (t : Table) (row : ℕ) (s : List ℕ) (n : ℕ) : Type 0 where
-  pub kind : ℕ
+  pub kind : EndKind
   pub whole : cut_of (steps_of t) row s ≡ cut.Complete n kind
   pub some : 0 < n
   pub inside : n ≤ length s
@@ -128,7 +129,7 @@ module _ (t : Table) (settings : Settings) (row : ℕ) where
   read_by s c n (cut.Complete m kind) q e =
       let k = point-count t.subchar1 settings.substitute m (reader (take m s) t.lines) c n e in
       let w : cut_of (steps_of t) row s ≡ cut.Complete n kind = q ∙ ap (λ (j : ℕ). cut.Complete j kind) k in
-      let r = cut-within (steps_of t) (no-ends-zero t.rows) s row n kind w in
+      let r = cut-within (steps_of t) s row n kind w in
       record { kind = kind; whole = w; some = r.0; inside = r.2; few = r.1 }
 
   pub read-from : (s : List ℕ) (c n : ℕ) → to_sequence t settings row s ≡ sequence.Scalar c n → ReadFrom t row s n
@@ -136,7 +137,7 @@ module _ (t : Table) (settings : Settings) (row : ℕ) where
   read-from s c n e = read_by s c n (cut_of (steps_of t) row s) refl e
 
   -- a complete code, by the line that reads it
-  pub to-complete : (s : List ℕ) (n kind : ℕ) → cut_of (steps_of t) row s ≡ cut.Complete n kind
+  pub to-complete : (s : List ℕ) (n : ℕ) (kind : EndKind) → cut_of (steps_of t) row s ≡ cut.Complete n kind
       → to_sequence t settings row s ≡ point_for t.subchar1 settings.substitute n (reader (take n s) t.lines)
   unfolding to_sequence
   to-complete s n kind q = ap (on_cut t settings.substitute s) q
@@ -205,7 +206,7 @@ module _ (t : Table) (settings : Settings) (row : ℕ) where
   code-alone : (s : List ℕ) (c n : ℕ) → to_sequence t settings row s ≡ sequence.Scalar c n → to_sequence t settings row (take n s) ≡ sequence.Scalar c n
   code-alone s c n e =
       let r = read-from s c n e in
-      let k = cut-complete (steps_of t) row longest row 0 s n r.kind (no-ends-zero t.rows) r.whole in
+      let k = cut-complete (steps_of t) row longest row 0 s n r.kind r.whole in
       let z : n - 0 ≡ n = omega arith in
       let l : length (take n s) ≡ n = length-take-le n s r.inside in
       let m : 0 + length (take n s) ≡ n = omega arith in
@@ -213,7 +214,7 @@ module _ (t : Table) (settings : Settings) (row : ℕ) where
       let w : cut_of (steps_of t) row (take n s) ≡ cut.Complete n r.kind =
       ap (cut_of (steps_of t) row) (sym (append-nil (take n s)))
       ∙ cut-code (steps_of t) row longest row 0 (take n s) [] r.kind (ap (λ (j : ℕ). end_kind (steps_of t) row (take j s)) (sym z) ∙ ends)
-      (λ q. omega (arith, k.kind)) (omega (arith, r.few))
+      (omega (arith, r.few))
       ∙ ap (λ (j : ℕ). cut.Complete j r.kind) m in
       to-complete (take n s) n r.kind w
       ∙ ap (λ (x : List ℕ). point_for t.subchar1 settings.substitute n (reader x t.lines)) (take-take n n s (omega arith))

@@ -122,10 +122,8 @@ module _ {step : SequenceStep} {first : ℕ} {s old out : List ℕ} {st at w : �
       ends-full l = ends OutputFull (run-full step st (drop at s) (length out - w) (0<length-drop s at left) new n next e (omega (arith, g.room)))
 
       -- a turn: what the sequence gives is put behind what is written, m bytes of it
-      pub run-turn : Sound step → (m : ℕ) (out' : List ℕ) → m ≡ length new → w + length new ≤ length out → out' ≡ placed out w new → Going step first s old out' next (at + n) (w + m)
-      run-turn so m out' c l z =
-          let some = so.some st (drop at s) new n next e in
-          let within = so.within st (drop at s) new n next e in
+      pub run-turn : 0 < n → n ≤ length (drop at s) → (m : ℕ) (out' : List ℕ) → m ≡ length new → w + length new ≤ length out → out' ≡ placed out w new → Going step first s old out' next (at + n) (w + m)
+      run-turn some within m out' c l z =
           let head : length (take w out ++ new) ≡ w + m = length-append (take w out) new ∙ rw (length-take-le w out g.room, ← c) in
           let front : take (w + m) out' ≡ take w out ++ new = rw z (take_at (take w out ++ new) (drop (w + length new) out) (w + m) head) in
           let behind : drop (w + m) out' ≡ drop (w + length new) out = rw z (drop_at (take w out ++ new) (drop (w + length new) out) (w + m) head) in

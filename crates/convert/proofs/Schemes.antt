@@ -1,6 +1,7 @@
 -- Writing and reading in a scheme, whatever runs behind the mark: the mark, and then the run in the scheme's side.
 -- write_in-full, write_in-mark, write_in-case   writing, by whether the mark fits     write_in-more, read_in-more   more space
 -- read_in-case   reading, whatever the mark       read_in-mark   reading behind the scheme's own mark     mark-chooses, mark-none   plain UTF-32: a mark of either order, none
+use Rattle.std.specs.Prelude.{Option, Some, None}
 use mathlib.Core.Path.{◌≡◌, refl, sym, ap, subst, ◌∙◌}
 use Prim.Native.Nat.{ℕ, ◌+◌, ◌-◌, ◌≤◌, ◌<◌}
 use mathlib.Core.List.{List, [], ◌++◌}
@@ -14,8 +15,6 @@ use Rattle.utf.specs.Utf32.{mark_in, mark_at}
 use Rattle.utf.specs.Scheme.{Side, utf8, utf32, side_of}
 use Rattle.utf.specs.declared.utf32.ByteOrder.{ByteOrder}
 use Rattle.utf.specs.declared.utf32.ByteOrder.TheVariants.{Big, Little}
-use Rattle.utf.specs.declared.utf32.Mark.{Mark}
-use Rattle.utf.specs.declared.utf32.Mark.TheVariants as mark
 use Rattle.utf.specs.declared.scheme.Scheme.{Scheme}
 use Rattle.utf.specs.declared.scheme.Scheme.TheVariants as scheme
 use Rattle.utf.proofs.Words.{length-encode_in}
@@ -81,14 +80,14 @@ module _ (run : Side → ℕ → Run) where
 module _ (run : Side → List ℕ → ℕ → Run) where
   pub mark-chooses : (order : ByteOrder) (s : List ℕ) (room : ℕ) → read_in scheme.Utf32 run (mark_in order ++ s) room ≡ after 4 [] (run (utf32 order) s room)
   mark-chooses order s room =
-      ap (λ (m : Mark). behind_mark m run (mark_in order ++ s) room) (mark_at-mark_in order s)
+      ap (λ (m : Option ByteOrder). behind_mark m run (mark_in order ++ s) room) (mark_at-mark_in order s)
       ∙ ap (λ (x : List ℕ). after 4 [] (run (utf32 order) x room)) behind
     where
       behind : drop 4 (mark_in order ++ s) ≡ s
       behind = ap (λ (n : ℕ). drop n (mark_in order ++ s)) (sym (length-encode_in order 0xfeff)) ∙ drop-append_seam (mark_in order) s
 
-  pub mark-none : (s : List ℕ) (room : ℕ) → mark_at s ≡ mark.None → read_in scheme.Utf32 run s room ≡ run (utf32 Big) s room
-  mark-none s room e = ap (λ (m : Mark). behind_mark m run s room) e
+  pub mark-none : (s : List ℕ) (room : ℕ) → mark_at s ≡ None → read_in scheme.Utf32 run s room ≡ run (utf32 Big) s room
+  mark-none s room e = ap (λ (m : Option ByteOrder). behind_mark m run s room) e
 
   pub read_in-mark : (e : Scheme) (s : List ℕ) (room : ℕ) → read_in e run (mark_of e ++ s) room ≡ after (length (mark_of e)) [] (run (side_of e) s room)
   read_in-mark scheme.Utf8 s room = sym (after_none (run utf8 s room))
@@ -96,12 +95,12 @@ module _ (run : Side → List ℕ → ℕ → Run) where
   read_in-mark scheme.Utf32Le s room = sym (after_none (run (utf32 Little) s room))
   read_in-mark scheme.Utf32 s room = mark-chooses Big s room ∙ ap (λ (n : ℕ). after n [] (run (utf32 Big) s room)) (sym length-mark)
 
-  behind-case : (P : Run → Type 0) (k : Mark) (s : List ℕ) (room : ℕ)
+  behind-case : (P : Run → Type 0) (k : Option ByteOrder) (s : List ℕ) (room : ℕ)
       → ((u : Side) → LawfulSide u → u.unit ≡ 4 → (rest : List ℕ) → length rest ≤ length s → P (run u rest room))
       → ((r : Run) → P r → P (after 4 [] r))
       → P (behind_mark k run s room)
-  behind-case P mark.None s room plain behind = plain (utf32 Big) (utf32-lawful Big) refl s (omega arith)
-  behind-case P (mark.Of order) s room plain behind =
+  behind-case P None s room plain behind = plain (utf32 Big) (utf32-lawful Big) refl s (omega arith)
+  behind-case P (Some order) s room plain behind =
       behind _ (plain (utf32 order) (utf32-lawful order) refl (drop 4 s) (omega (arith, length-drop 4 s)))
 
   -- what holds in each side of the scheme, and behind a mark too
@@ -115,9 +114,9 @@ module _ (run : Side → List ℕ → ℕ → Run) where
   read_in-case P scheme.Utf32 s room plain behind = behind-case P (mark_at s) s room plain behind
 
   behind_more : ((u : Side) → LawfulSide u → (s : List ℕ) (room m : ℕ) → NotFull (run u s room) → run u s (room + m) ≡ run u s room)
-      → (k : Mark) (s : List ℕ) (room m : ℕ) → NotFull (behind_mark k run s room) → behind_mark k run s (room + m) ≡ behind_mark k run s room
-  behind_more more mark.None s room m f = more (utf32 Big) (utf32-lawful Big) s room m f
-  behind_more more (mark.Of order) s room m f = ap (after 4 []) (more (utf32 order) (utf32-lawful order) (drop 4 s) room m f)
+      → (k : Option ByteOrder) (s : List ℕ) (room m : ℕ) → NotFull (behind_mark k run s room) → behind_mark k run s (room + m) ≡ behind_mark k run s room
+  behind_more more None s room m f = more (utf32 Big) (utf32-lawful Big) s room m f
+  behind_more more (Some order) s room m f = ap (after 4 []) (more (utf32 order) (utf32-lawful order) (drop 4 s) room m f)
 
   pub read_in-more : ((u : Side) → LawfulSide u → (s : List ℕ) (room m : ℕ) → NotFull (run u s room) → run u s (room + m) ≡ run u s room)
       → (e : Scheme) (s : List ℕ) (room m : ℕ) → NotFull (read_in e run s room) → read_in e run s (room + m) ≡ read_in e run s room

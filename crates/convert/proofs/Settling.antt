@@ -2,6 +2,9 @@
 -- in two places.
 -- settle-short, settle-ended     by the run                 pieced_by-bytes     what was written
 -- through-inside, through-onward   kept bytes and the front of the piece, joined      run-state   the place of the mark
+use Rattle.std.specs.Prelude.{Option as Optional, None}
+use Rattle.utf.specs.declared.utf32.ByteOrder.{ByteOrder}
+use Rattle.utf.specs.declared.utf8.Stop.{Stop}
 use mathlib.Core.Path.{◌≡◌, refl, sym, ap, subst, ◌∙◌}
 use Prim.Native.Nat.{ℕ, suc, ◌+◌, ◌-◌, ◌≤◌, ◌<◌, min}
 use mathlib.Core.Bool.{true, false}
@@ -30,9 +33,6 @@ use Rattle.convert.specs.declared.RunEnd.TheVariants.{AllRead}
 use Rattle.convert.specs.declared.Settings.{Settings}
 use Rattle.convert.specs.declared.pieces.Way.{Way}
 use Rattle.convert.specs.declared.pieces.Way.TheVariants.{ToUnicode, FromUnicode}
-use Rattle.convert.specs.declared.pieces.MarkPlace.{MarkPlace}
-use Rattle.convert.specs.declared.pieces.Standing.{Standing}
-use Rattle.convert.specs.declared.pieces.Standing.TheVariants as stands
 use Rattle.convert.specs.declared.pieces.PieceEnd.TheVariants.{Ended}
 use Rattle.convert.specs.declared.pieces.Pieced.{Pieced}
 use Rattle.convert.specs.declared.pieces.Ran.{Ran}
@@ -83,7 +83,7 @@ module _ (s : List ℕ) (old : ℕ) (ran : Ran) (l : old ≤ length s) (run : Ru
   -- it ended inside a sequence
   pub settle-short : is_cut_short ran.done.end ≡ true → (code : Code) → code ≡ code_of (drop ran.done.read (take (length s) s))
       → ◌≡◌ {A = Pieced}
-      (record { end = Ended AllRead; read = length s - old; written = ran.done.written; kept = record { bytes = code; mark = ran.mark; standing = stands.Nothing } })
+      (record { end = Ended AllRead; read = length s - old; written = ran.done.written; kept = record { bytes = code; mark = ran.mark; standing = None } })
       (pieced_of (pieced_by (take old s) (drop old s) run))
   settle-short q code c =
       let whole : take (length s) s ≡ take old s ++ drop old s = take_all (length s) s (omega arith) ∙ sym (take-append-drop old s) in
@@ -92,13 +92,13 @@ module _ (s : List ℕ) (old : ℕ) (ran : Ran) (l : old ≤ length s) (run : Ru
         end = Ended AllRead;
         read = sym (length-drop old s) i;
         written = writes i;
-        kept = record { bytes = bytes i; mark = marks i; standing = stands.Nothing };
+        kept = record { bytes = bytes i; mark = marks i; standing = None };
       })
       ∙ ap pieced_of (sym (pick_yes (is_cut_short run.end) (keeping (take old s) (drop old s) run) (ended_at (take old s) run) (ap is_cut_short (sym ends) ∙ q)))
 
   -- it did not
   pub settle-ended : is_cut_short ran.done.end ≡ false → (from : ℕ) → from ≡ min ran.done.read old
-      → (code : Code) → code ≡ code_of (drop from (take old s)) → (st : Standing) → st ≡ stands_as (standing ran.done.end)
+      → (code : Code) → code ≡ code_of (drop from (take old s)) → (st : Optional Stop) → st ≡ stands_as (standing ran.done.end)
       → ◌≡◌ {A = Pieced}
       (record { end = Ended ran.done.end; read = ran.done.read - from; written = ran.done.written; kept = record { bytes = code; mark = ran.mark; standing = st } })
       (pieced_of (pieced_by (take old s) (drop old s) run))
@@ -199,7 +199,7 @@ module _ (step : SequenceStep) (so : Sound step) (k : Carry) (piece : List ℕ) 
       omega (arith, ap length (pieced_by-bytes k.bytes piece r), fits step so (k.bytes ++ piece) k.state room)
 
 -- the state behind a run is the place of the mark
-pub run-state : (way : Way) (e : Scheme) (t : Table) (settings : Settings) (p : MarkPlace) (s : List ℕ) (room : ℕ)
+pub run-state : (way : Way) (e : Scheme) (t : Table) (settings : Settings) (p : Optional ByteOrder) (s : List ℕ) (room : ℕ)
     → let r = run_of (step_in way e t settings) (state_at p) 0 s room in state_at (place_at r.state) ≡ r.state
 run-state ToUnicode e t settings p s room =
     let q = ap (λ (r : Run). r.state) (step_in-to-run e t settings (state_at p) s room) in
@@ -210,7 +210,7 @@ run-state FromUnicode e t settings p s room =
 
 -- ## A run of either way
 
-module _ (e : Scheme) (t : Table) (settings : Settings) (p : MarkPlace) (s : List ℕ) (room : ℕ) where
+module _ (e : Scheme) (t : Table) (settings : Settings) (p : Optional ByteOrder) (s : List ℕ) (room : ℕ) where
   abbrev ran : Way → Run
   ran w = run_of (step_in w e t settings) (state_at p) 0 s room
 
@@ -228,7 +228,7 @@ module _ (e : Scheme) (t : Table) (settings : Settings) (p : MarkPlace) (s : Lis
     from-run : from_run b t settings s room ≡ from_run (scheme_behind e p) t settings s room
     from-run = ap (λ (x : Scheme). from_run x t settings s room) c
 
-    pub ran-from : (done : Converted) → done ≡ converted_of (from_run b t settings s room) → (m : MarkPlace) → m ≡ mark_after e p s done.read
+    pub ran-from : (done : Converted) → done ≡ converted_of (from_run b t settings s room) → (m : Optional ByteOrder) → m ≡ mark_after e p s done.read
         → ◌≡◌ {A = Ran} (record { done = done; mark = m }) (ran_of (ran w))
     ran-from done d m z =
         let f = d ∙ ap converted_of from-run in
@@ -269,3 +269,17 @@ join-turn front piece buffer n i h k e =
     ∙ ap (λ (x : List ℕ). x ++ (get_or piece i 0 ∷ [])) e
     ∙ append_assoc front (take i piece) (get_or piece i 0 ∷ [])
     ∙ ap (λ (x : List ℕ). front ++ x) (sym (take-suc piece i 0 k) ∙ ap (λ (m : ℕ). take m piece) (sym b))
+
+-- kept bytes, and the first three of a piece behind them
+pub joined-put : (old new : List ℕ) (n v : ℕ) (piece : List ℕ) → new ≡ sets old 0 (unpacked n v) → n ≤ 3 → 6 ≤ length old
+    → (more : ℕ) → more ≡ min (length piece) 3 → (part : List ℕ) → part ≡ take more piece → (behind : List ℕ)
+    → (n + more ≤ length (take n new ++ (part ++ behind))) × (take (n + more) (take n new ++ (part ++ behind)) ≡ unpacked n v ++ take 3 piece)
+joined-put old new n v piece put few long more is part copied behind =
+    let front : take n new ≡ unpacked n v = ap (take n) put ∙ front-put old n v (omega arith) in
+    let third : part ≡ take 3 piece = copied ∙ ap (λ (k : ℕ). take k piece) is ∙ take_min 3 piece in
+    let m : length part ≡ more = ap length copied ∙ length-take-le more piece (omega (arith, is)) in
+    let head : length (take n new ++ part) ≡ n + more = length-append (take n new) part ∙ (λ i. (ap length front ∙ length-unpacked n v) i + m i) in
+    let all : take n new ++ (part ++ behind) ≡ (take n new ++ part) ++ behind = sym (append_assoc (take n new) part behind) in (
+      omega (arith, ap length all, length-append (take n new ++ part) behind, head),
+      ap (take (n + more)) all ∙ take_at (take n new ++ part) behind (n + more) head ∙ (λ i. front i ++ third i),
+    )

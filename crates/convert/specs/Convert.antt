@@ -2,11 +2,11 @@
 -- then the byte order mark of plain UTF-32, then the run from row 0.
 -- Cases: audit/specs/Cases.antt (the starred ones)
 use Rattle.std.specs.Prelude.{if◌then◌else◌, ℕ, ◌-◌, List, [], leb, drop}
+use Rattle.std.specs.Prelude.{Option, Some, None}
+use Rattle.utf.specs.declared.utf32.ByteOrder.{ByteOrder}
 use Rattle.utf.specs.Utf32.{mark_in, mark_at}
 use Rattle.utf.specs.Scheme.{Side, utf8, utf32}
 use Rattle.utf.specs.declared.utf32.ByteOrder.TheVariants.{Big, Little}
-use Rattle.utf.specs.declared.utf32.Mark.{Mark}
-use Rattle.utf.specs.declared.utf32.Mark.TheVariants as mark
 use Rattle.utf.specs.declared.scheme.Scheme.{Scheme}
 use Rattle.utf.specs.declared.scheme.Scheme.TheVariants as scheme
 use Rattle.table.specs.Limits.{Limits}
@@ -41,9 +41,9 @@ write_in scheme.Utf32 run room =
 
 -- reading a text s: a mark chooses the order; its four bytes are read and give nothing; without one the order is
 -- big-endian
-abbrev pub behind_mark : Mark → (Side → List ℕ → ℕ → Run) → List ℕ → ℕ → Run
-behind_mark mark.None run s room = run (utf32 Big) s room
-behind_mark (mark.Of order) run s room = after 4 [] (run (utf32 order) (drop 4 s) room)
+abbrev pub behind_mark : Option ByteOrder → (Side → List ℕ → ℕ → Run) → List ℕ → ℕ → Run
+behind_mark None run s room = run (utf32 Big) s room
+behind_mark (Some order) run s room = after 4 [] (run (utf32 order) (drop 4 s) room)
 
 -- reading: only plain UTF-32 has a mark
 abbrev pub read_in : Scheme → (Side → List ℕ → ℕ → Run) → List ℕ → ℕ → Run

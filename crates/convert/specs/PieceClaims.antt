@@ -1,5 +1,6 @@
 -- What is claimed of any list of calls that convert a frame in pieces, and then close it (document 02, request 4).
 -- It is promised of calls as `all-pieces` in promises/specs/Promises.antt.
+use Rattle.std.specs.Prelude.{None}
 use Rattle.std.specs.Prelude.{ℕ, ◌+◌, ◌*◌, ◌<◌, ◌≤◌, ◌≡◌, ◌⊎◌, List, [], ◌∷◌, ◌++◌, length, drop}
 use Rattle.lists.specs.Order.{All}
 use Rattle.utf.specs.declared.utf8.Stop.{Stop}
@@ -13,8 +14,6 @@ use Rattle.convert.specs.declared.RunEnd.TheVariants.{AllRead, OutputFull, BadTa
 use Rattle.convert.specs.declared.Settings.{Settings}
 use Rattle.convert.specs.declared.pieces.Way.{Way}
 use Rattle.convert.specs.declared.pieces.Way.TheVariants.{ToUnicode, FromUnicode}
-use Rattle.convert.specs.declared.pieces.MarkPlace.TheVariants.{Ahead}
-use Rattle.convert.specs.declared.pieces.Standing.TheVariants as stands
 use Rattle.convert.specs.declared.pieces.Kept.{Kept}
 use Rattle.convert.specs.declared.pieces.PieceEnd.{PieceEnd}
 use Rattle.convert.specs.declared.pieces.PieceEnd.TheVariants.{Ended}
@@ -26,7 +25,7 @@ one_run FromUnicode e t settings s room = from_run e t settings s room
 
 -- a fresh start, as the functions hold it
 abbrev pub fresh_kept : Kept
-fresh_kept = record { bytes = record { bits = 0; len = 0 }; mark = Ahead; standing = stands.Nothing }
+fresh_kept = record { bytes = record { bits = 0; len = 0 }; mark = None; standing = None }
 
 -- a call: the kept state it got, its piece (a close has none) and space; how it ended, how much it read, what it wrote,
 -- and the kept state it handed back

@@ -4,6 +4,7 @@
 -- `close_tested`).
 -- Cases: proofs/PieceCases.antt
 use Rattle.std.specs.Prelude.{if◌then◌else◌, ℕ, zero, suc, ◌-◌, List, [], ◌∷◌, ◌++◌}
+use Rattle.std.specs.Prelude.{Option as Optional, Some, None}
 use Rattle.std.specs.Prelude.{Bool, true, false, leb, ltb, eqb, length, drop}
 use Rattle.std.proofs.Math.Option.{Option, none, some}
 use Rattle.lists.specs.Pick.{◌and◌, ◌or◌}
@@ -16,8 +17,6 @@ use Rattle.utf.specs.declared.utf8.Sequence.{Sequence}
 use Rattle.utf.specs.declared.utf8.Sequence.TheVariants as sequence
 use Rattle.utf.specs.declared.utf32.ByteOrder.{ByteOrder}
 use Rattle.utf.specs.declared.utf32.ByteOrder.TheVariants.{Big, Little}
-use Rattle.utf.specs.declared.utf32.Mark.{Mark}
-use Rattle.utf.specs.declared.utf32.Mark.TheVariants as mark
 use Rattle.utf.specs.declared.scheme.Scheme.{Scheme}
 use Rattle.utf.specs.declared.scheme.Scheme.TheVariants as scheme
 use Rattle.table.specs.Limits.{Limits}
@@ -41,10 +40,6 @@ use Rattle.convert.specs.declared.RunEnd.TheVariants.{AllRead, OutputFull, BadTa
 use Rattle.convert.specs.declared.Settings.{Settings}
 use Rattle.convert.specs.declared.pieces.Way.{Way}
 use Rattle.convert.specs.declared.pieces.Way.TheVariants.{ToUnicode, FromUnicode}
-use Rattle.convert.specs.declared.pieces.MarkPlace.{MarkPlace}
-use Rattle.convert.specs.declared.pieces.MarkPlace.TheVariants.{Ahead, Behind}
-use Rattle.convert.specs.declared.pieces.Standing.{Standing}
-use Rattle.convert.specs.declared.pieces.Standing.TheVariants as stands
 use Rattle.convert.specs.declared.pieces.Kept.{Kept}
 use Rattle.convert.specs.declared.pieces.PieceEnd.{PieceEnd}
 use Rattle.convert.specs.declared.pieces.PieceEnd.TheVariants.{Ended, BadKept}
@@ -127,9 +122,9 @@ abbrev pub state_of : ByteOrder → ℕ
 state_of Big = 1
 state_of Little = 2
 
-abbrev pub state_at : MarkPlace → ℕ
-state_at Ahead = 0
-state_at (Behind order) = state_of order
+abbrev pub state_at : Optional ByteOrder → ℕ
+state_at None = 0
+state_at (Some order) = state_of order
 
 -- what is given, and then this state
 abbrev pub in_state : ℕ → Gives → Gives
@@ -141,9 +136,9 @@ abbrev pub keep_state : SequenceStep → SequenceStep
 keep_state step st s = in_state st (step 0 s)
 
 -- reading plain UTF-32: the first four bytes choose the order; a mark gives nothing; without one it is big-endian
-abbrev pub by_mark : Mark → Gives → Gives
-by_mark mark.None g = in_state 1 g
-by_mark (mark.Of order) g = give [] 4 (state_of order)
+abbrev pub by_mark : Optional ByteOrder → Gives → Gives
+by_mark None g = in_state 1 g
+by_mark (Some order) g = give [] 4 (state_of order)
 
 abbrev pub plain_step : (ByteOrder → SequenceStep) → SequenceStep
 plain_step step zero s = by_mark (mark_at s) (step Big 0 s)
@@ -212,17 +207,17 @@ abbrev pub is_held : Code → Bool
 is_held c = if eqb c.len 0 then eqb c.bits 0 else leb c.len 3 and padded c.len c.bits
 
 -- the mark stays ahead but in plain UTF-32; written, that is big-endian, and nothing is kept before it
-abbrev pub plain_mark_fits : Way → Bool → MarkPlace → Bool
-plain_mark_fits ToUnicode untouched Ahead = untouched
-plain_mark_fits ToUnicode untouched (Behind Big) = true
-plain_mark_fits ToUnicode untouched (Behind Little) = false
+abbrev pub plain_mark_fits : Way → Bool → Optional ByteOrder → Bool
+plain_mark_fits ToUnicode untouched None = untouched
+plain_mark_fits ToUnicode untouched (Some Big) = true
+plain_mark_fits ToUnicode untouched (Some Little) = false
 plain_mark_fits FromUnicode untouched p = true
 
-abbrev pub is_ahead : MarkPlace → Bool
-is_ahead Ahead = true
-is_ahead (Behind order) = false
+abbrev pub is_ahead : Optional ByteOrder → Bool
+is_ahead None = true
+is_ahead (Some order) = false
 
-abbrev pub mark_fits : Way → Scheme → Bool → MarkPlace → Bool
+abbrev pub mark_fits : Way → Scheme → Bool → Optional ByteOrder → Bool
 mark_fits way scheme.Utf8 untouched p = is_ahead p
 mark_fits way scheme.Utf32Be untouched p = is_ahead p
 mark_fits way scheme.Utf32Le untouched p = is_ahead p
@@ -233,11 +228,11 @@ abbrev pub length_fits : Way → Scheme → ℕ → ℕ → Bool
 length_fits ToUnicode e n m = leb 1 m and leb n m and leb m longest
 length_fits FromUnicode e n m = eqb m (side_of e).unit
 
-abbrev pub stands_fit : Way → Scheme → ℕ → Standing → Bool
-stands_fit way e n stands.Nothing = true
-stands_fit way e n (stands.Stopped stopped.CutShort) = ltb 0 n
-stands_fit way e n (stands.Stopped (stopped.Illegal m)) = length_fits way e n m
-stands_fit way e n (stands.Stopped stopped.Unassigned) = true
+abbrev pub stands_fit : Way → Scheme → ℕ → Optional Stop → Bool
+stands_fit way e n None = true
+stands_fit way e n (Some stopped.CutShort) = ltb 0 n
+stands_fit way e n (Some (stopped.Illegal m)) = length_fits way e n m
+stands_fit way e n (Some stopped.Unassigned) = true
 
 -- bytes that begin a sequence: by the states every one leads on; of a scheme, cut short
 abbrev pub is_short : Sequence → Bool
@@ -269,9 +264,9 @@ abbrev pub begun : Way → Scheme → Rows → Bool → List ℕ → Bool
 begun ToUnicode e rows skip s = is_short_cut (cut_of rows 0 s)
 begun FromUnicode e rows skip s = is_short ((side_of e).decode s) or trails_in e skip s
 
-abbrev pub is_nothing : Standing → Bool
-is_nothing stands.Nothing = true
-is_nothing (stands.Stopped w) = false
+abbrev pub is_nothing : Optional Stop → Bool
+is_nothing None = true
+is_nothing (Some w) = false
 
 -- what was handed over is a kept state
 unfoldable pub kept_fits : Way → Scheme → Rows → Settings → Kept → Bool
@@ -285,18 +280,18 @@ kept_fits way e rows settings k =
 -- ## On any memory
 
 -- kept, as the functions hold it: from it, and into it
-abbrev pub stands_in : Standing → Option Stop
-stands_in stands.Nothing = none
-stands_in (stands.Stopped w) = some w
+abbrev pub stands_in : Optional Stop → Option Stop
+stands_in None = none
+stands_in (Some w) = some w
 
-abbrev pub stands_as : Option Stop → Standing
-stands_as none = stands.Nothing
-stands_as (some w) = stands.Stopped w
+abbrev pub stands_as : Option Stop → Optional Stop
+stands_as none = None
+stands_as (some w) = Some w
 
-abbrev pub place_at : ℕ → MarkPlace
-place_at zero = Ahead
-place_at (suc zero) = Behind Big
-place_at (suc (suc st)) = Behind Little
+abbrev pub place_at : ℕ → Optional ByteOrder
+place_at zero = None
+place_at (suc zero) = Some Big
+place_at (suc (suc st)) = Some Little
 
 abbrev pub carry_in : Kept → Carry
 carry_in k = record { bytes = bytes_of k.bytes; state = state_at k.mark; stands = stands_in k.standing }

@@ -2,7 +2,9 @@
 -- Substitute; document 02, request 3: skipping). The Unicode side is a parameter.
 -- Contents: settings; skipping, whatever the step (`skipping`); to Unicode: the code point of a code, or its substitute
 -- (`to_step`); from Unicode: what a code point is written as, or its substitute (`from_step`).
+use Rattle.std.specs.Prelude.{Option as Optional, Some}
 use Rattle.std.specs.Prelude.{if◌then◌else◌, ℕ, ◌≡◌, List, [], ◌∷◌, Bool, true, false, eqb, take}
+use Rattle.std.specs.Prelude.{Option as Optional, Some, None}
 use Rattle.std.proofs.Math.Option.{Option, none, some}
 use Rattle.utf.specs.Scheme.{Side}
 use Rattle.utf.specs.declared.utf8.Sequence.{Sequence}
@@ -16,11 +18,7 @@ use Rattle.table.specs.declared.states.Cut.{Cut}
 use Rattle.table.specs.declared.states.Cut.TheVariants as cut
 use Rattle.table.specs.declared.states.CutStop.TheVariants as cut_stop
 use Rattle.table.specs.declared.lookup.Mapping.{Mapping}
-use Rattle.table.specs.declared.lookup.Found.{Found}
-use Rattle.table.specs.declared.lookup.Found.TheVariants as found
 use Rattle.convert.specs.Run.{Gives, give, stop, SequenceStep}
-use Rattle.convert.specs.declared.ReadAs.{ReadAs}
-use Rattle.convert.specs.declared.ReadAs.TheVariants as read
 use Rattle.convert.specs.declared.WrittenAs.{WrittenAs}
 use Rattle.convert.specs.declared.WrittenAs.TheVariants as written
 use Rattle.convert.specs.declared.Settings.{Settings}
@@ -68,9 +66,9 @@ read_as none = none
 read_as (some l) = some l.point
 
 -- the choice towards Unicode, as the function hands it back
-abbrev pub point_read_as : ReadAs → Option ℕ
-point_read_as (read.Point c) = some c
-point_read_as read.Nothing = none
+abbrev pub point_read_as : Optional ℕ → Option ℕ
+point_read_as (Some c) = some c
+point_read_as None = none
 
 abbrev pub on_cut : Table → Bool → List ℕ → Cut → Sequence
 on_cut t substitute s (cut.Stopped cut_stop.CutShort) = sequence.Stopped stopped.CutShort
@@ -117,8 +115,8 @@ written_in written.Subchar1 = subchar1
 written_in written.Nothing = nothing
 
 -- a code that is written is the code of the line that was found
-abbrev pub OwnCode : Found → WrittenAs → Type 0
-OwnCode f (written.Code c) = (m : Mapping) × (f ≡ found.Line m) × (m.code ≡ c)
+abbrev pub OwnCode : Optional Mapping → WrittenAs → Type 0
+OwnCode f (written.Code c) = (m : Mapping) × (f ≡ Some m) × (m.code ≡ c)
 OwnCode f written.Subchar1 = Unit {0}
 OwnCode f written.Nothing = Unit {0}
 

@@ -2,3 +2,4 @@
 pub mod Inner
 pub mod Carried
 pub mod Laws
+pub mod Ways

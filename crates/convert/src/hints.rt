@@ -1,6 +1,6 @@
 // Hints: for a code or a code point, the place where a look-up looks first. It tests the line there before it takes it,
 // so any number will do as a hint, and nothing here is promised: a good hint only saves the search.
-ghost use Rattle.std.specs.Prelude.{◌≡◌};
+ghost use Rattle.std.specs.Prelude.{◌≡◌, length};
 
 use table::store::RANK;
 
@@ -37,35 +37,21 @@ pub(crate) fn point_slot(point: u32) -> usize {
 }
 
 // The slot that a stored line's code point is filled in at; a `|3` line writes nothing and has none.
-fn written_slot(info: u32) -> usize {
+pub(crate) fn written_slot(info: u32) -> usize {
     if info / RANK % 8 == 1 {
         return SLOTS;
     }
     point_slot(info % RANK)
 }
 
-// Which of a stored line's two numbers a hint is found by.
-#[derive(Clone, Copy)]
-pub(crate) enum Key {
-    Code,
-    Point,
-}
-
-// The slot that a line's number is filled in at.
-fn filled_slot(key: Key, number: u32) -> usize {
-    match key {
-        Key::Code => code_slot(number),
-        Key::Point => written_slot(number),
-    }
-}
-
-// Fills in the places of lines by their codes, or by their code points, from the last to the first: where several share
-// a slot, the first keeps it.
-pub(crate) fn fill(key: Key, numbers: &[u32], hints: &mut [u16]) {
-    let mut k = numbers.len();
-    while 0 < k {
-        k -= 1;
-        let slot = filled_slot(key, numbers[k]);
+// Fills in the places of lines, each at the slot that `slot_of` gives for the line's number, from the last to the
+// first: where several share a slot, the first keeps it.
+pub(crate) fn fill<F: Fn(u32) -> usize>(slot_of: F, numbers: &[u32], hints: &mut [u16])
+    requires { F.IsAlwaysCallable slot_of }
+    ensures { length hints.new ≡ length hints.old }
+{
+    for k in (0..numbers.len()).rev() {
+        let slot = slot_of(numbers[k]);
         if slot < hints.len() {
             hints[slot] = (k % 65536) as u16;
         }

@@ -1,13 +1,11 @@
 // Either conversion in pieces: a frame comes in bursts, and each call is handed what the one before it kept.
-ghost use Rattle.std.specs.Prelude.{◌≡◌, true, List, [], ◌++◌, ℕ, ◌+◌, ◌≤◌, min, length, take, drop, eqb};
+ghost use Rattle.std.specs.Prelude.{◌≡◌, true, List, [], ◌++◌, ℕ, ◌+◌, ◌≤◌, None, min, length, take, drop, eqb};
 ghost use Rattle.std.proofs.Math.Option.{none};
 ghost use Rattle.utf.specs.Scheme.{side_of};
 ghost use Rattle.table.specs.Limits.{limits};
 ghost use Rattle.table.specs.Codes.{code_of, bytes_of};
-ghost use Rattle.table.specs.States.{step_at};
-ghost use Rattle.table.specs.Slices.{slices};
-ghost use Rattle.table.specs.Memory.{table_in};
-ghost use Rattle.table.specs.Valid.{valid};
+ghost use Rattle.table.specs.Meaning.{steps_of};
+ghost use Rattle.table.specs.Held.{memory_of};
 ghost use Rattle.convert.specs.Run.{Run, run_of, converted_of, put_bytes, put_out};
 ghost use Rattle.convert.specs.Pieces.{is_cut_short, standing, stands_as, pieced_by, piece_on, state_at, step_in};
 ghost use Rattle.convert.specs.Pieces.{piece_behind, is_short, is_short_cut, trailing, trails_in, is_held, stands_fit};
@@ -17,46 +15,33 @@ ghost use Rattle.convert.specs.Pieces.{piece_number, piece_length};
 ghost use Rattle.convert.specs.Pieces.{carry_in, close_in, piece_tested, close_tested};
 ghost use Rattle.convert.specs.loops.Carried.{ran_of, scheme_behind, plain_after, mark_after, carry_of, is_due};
 ghost use Rattle.convert.specs.loops.Carried.{Guards};
-ghost use Rattle.convert.specs.declared.pieces.MarkPlace.TheVariants.{Ahead};
 ghost use Rattle.lists.specs.Between.{between};
 ghost use Rattle.lists.specs.Pick.{◌and◌};
 
+use crate::way::{self, ToUnicode};
 use crate::{Converted, RunEnd, Settings};
+use table::lent::{Lent, Table};
 use table::states::{Code, Cut, CutStop};
-use table::valid::Record;
 use utf::scheme::Scheme;
 use utf::utf8::{Sequence, Stop};
-use utf::utf32::{ByteOrder, Mark};
+use utf::utf32::ByteOrder;
 
-// Which of the two conversions.
+// Which of the two conversions. Kept as an enum: the definitions (`step_in`, `kept_fits`) go by its cases, and `run_in`
+// alone chooses the run by it.
 #[derive(Clone, Copy)]
 pub enum Way {
     ToUnicode,
     FromUnicode,
 }
 
-// Where the mark of plain UTF-32 is: still ahead; or behind, and the text has this order. With every other scheme it
-// stays ahead.
-#[derive(Clone, Copy)]
-pub enum MarkPlace {
-    Ahead,
-    Behind(ByteOrder),
-}
-
-// The final answer that stands from an earlier call, if there is one.
-#[derive(Clone, Copy)]
-pub enum Standing {
-    Nothing,
-    Stopped(Stop),
-}
-
-// What is kept between calls: the bytes of a sequence that is not through, at most three; the place of the mark; and
-// the answer that stands.
+// What is kept between calls: the bytes of a sequence that is not through, at most three; the order of the text once
+// the mark of plain UTF-32 is behind (with every other scheme it stays ahead); and the final answer that stands from
+// an earlier call, if there is one.
 #[derive(Clone, Copy)]
 pub struct Kept {
     pub bytes: Code,
-    pub mark: MarkPlace,
-    pub standing: Standing,
+    pub mark: Option<ByteOrder>,
+    pub standing: Option<Stop>,
 }
 
 // No bytes.
@@ -65,11 +50,12 @@ const NONE: Code = Code { bits: 0, len: 0 };
 // A fresh start.
 pub const FRESH: Kept = Kept {
     bytes: NONE,
-    mark: MarkPlace::Ahead,
-    standing: Standing::Nothing,
+    mark: None,
+    standing: None,
 };
 
 // How a call ends, by number.
+// No Result, as of `RunEnd`.
 #[derive(Clone, Copy)]
 pub enum PieceEnd {
     // 0 and 50 to 53, as of a whole conversion, and 60. 0: all of the piece is read; what it left unfinished is kept.
@@ -78,6 +64,28 @@ pub enum PieceEnd {
     // 42: what was handed over as kept is no such thing under this table, scheme and setting of skipping, and nothing
     // is read. Start afresh.
     BadKept,
+}
+
+impl PieceEnd {
+    // The number of a call's end.
+    pub fn number(self) -> u32
+        ensures { result ≡ piece_number self }
+    {
+        match self {
+            PieceEnd::Ended(how) => how.number(),
+            PieceEnd::BadKept => 42,
+        }
+    }
+
+    // The length of the illegal sequence that ended a call, or 0.
+    pub fn length(self) -> usize
+        ensures { result ≡ piece_length self }
+    {
+        match self {
+            PieceEnd::Ended(how) => how.length(),
+            PieceEnd::BadKept => 0,
+        }
+    }
 }
 
 // How a call ended, how many bytes of the piece it read, how many it wrote, and what it kept.
@@ -93,96 +101,65 @@ pub struct Pieced {
 #[derive(Clone, Copy)]
 pub struct Ran {
     done: Converted,
-    mark: MarkPlace,
-}
-
-// The number of a call's end.
-pub fn piece_number(end: PieceEnd) -> u32
-    ensures { result ≡ piece_number end }
-{
-    match end {
-        PieceEnd::Ended(how) => crate::end_number(how),
-        PieceEnd::BadKept => 42,
-    }
-}
-
-// The length of the illegal sequence that ended a call, or 0.
-pub fn piece_length(end: PieceEnd) -> usize
-    ensures { result ≡ piece_length end }
-{
-    match end {
-        PieceEnd::Ended(how) => crate::end_length(how),
-        PieceEnd::BadKept => 0,
-    }
+    mark: Option<ByteOrder>,
 }
 
 // Whether a run ended inside a sequence.
 fn is_cut_short(end: RunEnd) -> bool
     ensures { result ≡ is_cut_short end }
 {
-    match end {
-        RunEnd::AllRead => false,
-        RunEnd::OutputFull => false,
-        RunEnd::BadTable => false,
-        RunEnd::Stopped(stop) => match stop {
-            Stop::CutShort => true,
-            Stop::Illegal(_) => false,
-            Stop::Unassigned => false,
-        },
-    }
+    matches!(end, RunEnd::Stopped(Stop::CutShort))
 }
 
 // The answer that stands after a run that ended so.
-fn standing_after(end: RunEnd) -> Standing
+// No `From`: not every end of a run stands.
+fn standing_after(end: RunEnd) -> Option<Stop>
     ensures { result ≡ stands_as (standing end) }
 {
     match end {
-        RunEnd::AllRead => Standing::Nothing,
-        RunEnd::OutputFull => Standing::Nothing,
-        RunEnd::BadTable => Standing::Nothing,
-        RunEnd::Stopped(stop) => Standing::Stopped(stop),
+        RunEnd::AllRead | RunEnd::OutputFull | RunEnd::BadTable => None,
+        RunEnd::Stopped(stop) => Some(stop),
     }
 }
 
 // The scheme of the text from here on.
-fn scheme_behind(scheme: Scheme, mark: MarkPlace) -> Scheme
+// A `match` gives a value for each scheme here; no function is chosen.
+fn scheme_behind(scheme: Scheme, mark: Option<ByteOrder>) -> Scheme
     ensures { result ≡ scheme_behind scheme mark }
 {
     match scheme {
-        Scheme::Utf8 => Scheme::Utf8,
-        Scheme::Utf32Be => Scheme::Utf32Be,
-        Scheme::Utf32Le => Scheme::Utf32Le,
         Scheme::Utf32 => match mark {
-            MarkPlace::Ahead => Scheme::Utf32,
-            MarkPlace::Behind(byte_order) => utf::scheme::in_order(byte_order),
+            None => Scheme::Utf32,
+            Some(byte_order) => Scheme::from(byte_order),
         },
+        Scheme::Utf8 | Scheme::Utf32Be | Scheme::Utf32Le => scheme,
     }
 }
 
 // Where the mark is behind the first bytes of plain UTF-32.
-fn place_behind(input: &[u8], read: usize) -> MarkPlace
-    ensures { result ≡ plain_after Ahead input.now read }
+fn place_behind(input: &[u8], read: usize) -> Option<ByteOrder>
+    ensures { result ≡ plain_after None input.now read }
 {
     if read == 0 {
-        return MarkPlace::Ahead;
+        return None;
     }
-    match utf::utf32::mark_at(input) {
-        Mark::None => MarkPlace::Behind(ByteOrder::Big),
-        Mark::Of(byte_order) => MarkPlace::Behind(byte_order),
-    }
+    Some(utf::utf32::mark_at(input).unwrap_or(ByteOrder::Big))
 }
 
 // Where the mark is when `read` bytes of a text are read.
-fn mark_after(scheme: Scheme, mark: MarkPlace, input: &[u8], read: usize) -> MarkPlace
+fn mark_after(
+    scheme: Scheme,
+    mark: Option<ByteOrder>,
+    input: &[u8],
+    read: usize,
+) -> Option<ByteOrder>
     ensures { result ≡ mark_after scheme mark input.now read }
 {
     match scheme {
-        Scheme::Utf8 => mark,
-        Scheme::Utf32Be => mark,
-        Scheme::Utf32Le => mark,
+        Scheme::Utf8 | Scheme::Utf32Be | Scheme::Utf32Le => mark,
         Scheme::Utf32 => match mark {
-            MarkPlace::Ahead => place_behind(input, read),
-            MarkPlace::Behind(byte_order) => MarkPlace::Behind(byte_order),
+            None => place_behind(input, read),
+            Some(_) => mark,
         },
     }
 }
@@ -190,45 +167,33 @@ fn mark_after(scheme: Scheme, mark: MarkPlace, input: &[u8], read: usize) -> Mar
 // A run of either conversion through part of a text, by a valid table.
 fn run_in(
     way: Way,
-    mark: MarkPlace,
-    rec: Record,
-    states: &[u16],
-    codes: &[u32],
-    infos: &[u32],
-    order: &[u32],
+    mark: Option<ByteOrder>,
+    table: &Table,
     input: &[u8],
     out: &mut [u8],
     settings: Settings,
     scheme: Scheme,
 ) -> Ran
-    requires { valid limits rec (slices states.now codes.now infos.now order.now) ≡ true }
-    ensures { let m =
-        slices states.now codes.now infos.now order.now in
-        let step = step_in way scheme (table_in rec m) settings in
+    ensures { let step = step_in way scheme table.now settings in
         let run = run_of step (state_at mark) 0 input.now (length out.old) in
         (result ≡ ran_of run)
         × (out.new ≡ put_out run out.old) }
 {
     match way {
         Way::ToUnicode => {
-            let done = crate::to_hinted(
-                rec, states, codes, infos, order, input, out, settings, scheme,
-            );
-            Ran {
-                done: done,
-                mark: mark,
-            }
+            let way = ToUnicode {
+                table: table.copied(),
+                settings,
+                scheme,
+            };
+            let done = way::run(way, input, out);
+            Ran { done, mark }
         }
         Way::FromUnicode => {
             let behind = scheme_behind(scheme, mark);
-            let done = crate::from_scheme(
-                rec, states, codes, infos, order, input, out, settings, behind,
-            );
-            let place = mark_after(scheme, mark, input, done.read);
-            Ran {
-                done: done,
-                mark: place,
-            }
+            let done = crate::from_scheme(table, input, out, settings, behind);
+            let mark = mark_after(scheme, mark, input, done.read);
+            Ran { done, mark }
         }
     }
 }
@@ -256,6 +221,7 @@ fn code_at(s: &[u8], from: usize, to: usize) -> Code
 }
 
 // A call's answer, by the run through its text `s`, whose first `old` bytes were kept.
+// Text and count stay two arguments: it needs the whole, and how much of it was kept.
 fn settle(s: &[u8], old: usize, ran: Ran) -> Pieced
     requires { (old ≤ length s.now) × (old ≤ 3) × (ran.done.read ≤ length s.now)
         × (is_cut_short ran.done.end ≡ true → length s.now ≤ ran.done.read + 3) }
@@ -273,7 +239,7 @@ fn settle(s: &[u8], old: usize, ran: Ran) -> Pieced
             kept: Kept {
                 bytes: code_at(s, done.read, s.len()),
                 mark: place,
-                standing: Standing::Nothing,
+                standing: None,
             },
         };
     }
@@ -293,32 +259,24 @@ fn settle(s: &[u8], old: usize, ran: Ran) -> Pieced
 // A call with nothing kept.
 fn alone(
     way: Way,
-    mark: MarkPlace,
-    rec: Record,
-    states: &[u16],
-    codes: &[u32],
-    infos: &[u32],
-    order: &[u32],
+    mark: Option<ByteOrder>,
+    table: &Table,
     input: &[u8],
     out: &mut [u8],
     settings: Settings,
     scheme: Scheme,
 ) -> Pieced
-    requires { valid limits rec (slices states.now codes.now infos.now order.now) ≡ true }
-    ensures { let m =
-        slices states.now codes.now infos.now order.now in
-        let step = step_in way scheme (table_in rec m) settings in
+    ensures { let step = step_in way scheme table.now settings in
         let run = piece_on step (carry_of [] mark) input.now (length out.old) in
         (result ≡ pieced_of run)
         × (out.new ≡ put_bytes run.bytes out.old) }
 {
-    let ran = run_in(
-        way, mark, rec, states, codes, infos, order, input, out, settings, scheme,
-    );
+    let ran = run_in(way, mark, table, input, out, settings, scheme);
     settle(input, 0, ran)
 }
 
 // Kept bytes, at most three, and the first three of a piece, put together; answers how many there are.
+// At most three bytes are asked, and no type says it: `Kept` may hold any numbers.
 fn join(bytes: Code, piece: &[u8], buffer: &mut [u8]) -> usize
     requires { (bytes.len ≤ 3) × (6 ≤ length buffer.old) }
     ensures { (result ≤ length buffer.new)
@@ -327,11 +285,7 @@ fn join(bytes: Code, piece: &[u8], buffer: &mut [u8]) -> usize
     let n = bytes.len as usize;
     crate::put_bytes(bytes.bits, n, buffer, 0);
     let more = smaller(piece.len(), 3);
-    let mut i = 0;
-    while i < more {
-        buffer[n + i] = piece[i];
-        i += 1;
-    }
+    buffer[n..n + more].copy_from_slice(&piece[..more]);
     n + more
 }
 
@@ -339,12 +293,8 @@ fn join(bytes: Code, piece: &[u8], buffer: &mut [u8]) -> usize
 // then through the piece itself.
 fn through_joined(
     way: Way,
-    mark: MarkPlace,
-    rec: Record,
-    states: &[u16],
-    codes: &[u32],
-    infos: &[u32],
-    order: &[u32],
+    mark: Option<ByteOrder>,
+    table: &Table,
     old: usize,
     joined: &[u8],
     input: &[u8],
@@ -352,19 +302,14 @@ fn through_joined(
     settings: Settings,
     scheme: Scheme,
 ) -> Pieced
-    requires { (valid limits rec (slices states.now codes.now infos.now order.now) ≡ true)
-        × (old ≤ 3) × (old ≤ length joined.now) × (drop old joined.now ≡ take 3 input.now) }
-    ensures { let m =
-        slices states.now codes.now infos.now order.now in
-        let step = step_in way scheme (table_in rec m) settings in
+    requires { (old ≤ 3) × (old ≤ length joined.now) × (drop old joined.now ≡ take 3 input.now) }
+    ensures { let step = step_in way scheme table.now settings in
         let carry = carry_of (take old joined.now) mark in
         let run = piece_on step carry input.now (length out.old) in
         (result ≡ pieced_of run)
         × (out.new ≡ put_bytes run.bytes out.old) }
 {
-    let over = run_in(
-        way, mark, rec, states, codes, infos, order, joined, out, settings, scheme,
-    );
+    let over = run_in(way, mark, table, joined, out, settings, scheme);
     let front = over.done;
     let place = over.mark;
     if front.read < old {
@@ -375,11 +320,7 @@ fn through_joined(
     let done = alone(
         way,
         place,
-        rec,
-        states,
-        codes,
-        infos,
-        order,
+        table,
         &input[used..],
         &mut out[put..],
         settings,
@@ -396,45 +337,33 @@ fn through_joined(
 }
 
 // A call on a piece, behind any mark, where no answer stands.
+// An array of fixed size: there is no heap.
 fn through(
     way: Way,
-    mark: MarkPlace,
-    rec: Record,
-    states: &[u16],
-    codes: &[u32],
-    infos: &[u32],
-    order: &[u32],
+    mark: Option<ByteOrder>,
+    table: &Table,
     bytes: Code,
     input: &[u8],
     out: &mut [u8],
     settings: Settings,
     scheme: Scheme,
 ) -> Pieced
-    requires { (valid limits rec (slices states.now codes.now infos.now order.now) ≡ true)
-        × (bytes.len ≤ 3) }
-    ensures { let m =
-        slices states.now codes.now infos.now order.now in
-        let step = step_in way scheme (table_in rec m) settings in
+    requires { bytes.len ≤ 3 }
+    ensures { let step = step_in way scheme table.now settings in
         let carry = carry_of (bytes_of bytes) mark in
         let run = piece_on step carry input.now (length out.old) in
         (result ≡ pieced_of run)
         × (out.new ≡ put_bytes run.bytes out.old) }
 {
     if bytes.len == 0 {
-        return alone(
-            way, mark, rec, states, codes, infos, order, input, out, settings, scheme,
-        );
+        return alone(way, mark, table, input, out, settings, scheme);
     }
     let mut buffer = [0u8; 6];
     let n = join(bytes, input, &mut buffer);
     through_joined(
         way,
         mark,
-        rec,
-        states,
-        codes,
-        infos,
-        order,
+        table,
         bytes.len as usize,
         &buffer[..n],
         input,
@@ -445,21 +374,10 @@ fn through(
 }
 
 // Whether the mark of plain UTF-32 is to be written first.
-fn is_due(way: Way, mark: MarkPlace, scheme: Scheme) -> bool
+fn is_due(way: Way, mark: Option<ByteOrder>, scheme: Scheme) -> bool
     ensures { result ≡ is_due way scheme mark }
 {
-    match mark {
-        MarkPlace::Behind(_) => false,
-        MarkPlace::Ahead => match way {
-            Way::FromUnicode => false,
-            Way::ToUnicode => match scheme {
-                Scheme::Utf8 => false,
-                Scheme::Utf32Be => false,
-                Scheme::Utf32Le => false,
-                Scheme::Utf32 => true,
-            },
-        },
-    }
+    mark.is_none() && matches!(way, Way::ToUnicode) && matches!(scheme, Scheme::Utf32)
 }
 
 // A call that nothing is read or written in, and kept is handed back.
@@ -477,45 +395,31 @@ fn idle(end: PieceEnd, kept: Kept) -> Pieced
 // A call on a piece, where no answer stands: plain UTF-32 has its mark first.
 fn behind_due(
     way: Way,
-    rec: Record,
-    states: &[u16],
-    codes: &[u32],
-    infos: &[u32],
-    order: &[u32],
+    table: &Table,
     kept: Kept,
     input: &[u8],
     out: &mut [u8],
     settings: Settings,
     scheme: Scheme,
 ) -> Pieced
-    requires { (valid limits rec (slices states.now codes.now infos.now order.now) ≡ true)
-        × (is_held kept.bytes ≡ true) × (is_nothing kept.standing ≡ true)
+    requires { (is_held kept.bytes ≡ true) × (is_nothing kept.standing ≡ true)
         × (mark_fits way scheme true kept.mark ≡ true) }
-    ensures { let m =
-        slices states.now codes.now infos.now order.now in
-        let table = table_in rec m in
-        let old = out.old in
-        let run = piece_behind way scheme table settings (carry_in kept) input.now (length old) in
+    ensures { let old = out.old in
+        let run = piece_behind way scheme table.now settings (carry_in kept) input.now (length old) in
         (result ≡ pieced_of run)
         × (out.new ≡ put_bytes run.bytes old) }
 {
     let mark = kept.mark;
     if !is_due(way, mark, scheme) {
-        return through(
-            way, mark, rec, states, codes, infos, order, kept.bytes, input, out, settings, scheme,
-        );
+        return through(way, mark, table, kept.bytes, input, out, settings, scheme);
     }
     if !utf::utf32::put_mark(out) {
         return idle(PieceEnd::Ended(RunEnd::OutputFull), kept);
     }
     let done = through(
         way,
-        MarkPlace::Behind(ByteOrder::Big),
-        rec,
-        states,
-        codes,
-        infos,
-        order,
+        Some(ByteOrder::Big),
+        table,
         kept.bytes,
         input,
         &mut out[4..],
@@ -533,44 +437,36 @@ fn behind_due(
 }
 
 // At most three bytes, with zeros in the unused bits.
+// A `Code` may hold any numbers, so this is tested.
 fn is_held(bytes: Code) -> bool
     ensures { result ≡ is_held bytes }
 {
     if bytes.len == 0 {
-        return bytes.bits == 0;
+        bytes.bits == 0
+    } else {
+        bytes.len <= 3 && table::valid::is_padded(bytes.len, bytes.bits)
     }
-    if 3 < bytes.len {
-        return false;
-    }
-    table::valid::is_padded(bytes.len, bytes.bits)
 }
 
 // Whether the mark is ahead.
-fn is_ahead(mark: MarkPlace) -> bool
+fn is_ahead(mark: Option<ByteOrder>) -> bool
     ensures { result ≡ is_ahead mark }
 {
-    match mark {
-        MarkPlace::Ahead => true,
-        MarkPlace::Behind(_) => false,
-    }
+    mark.is_none()
 }
 
 // Whether the mark may be there; `untouched` says that nothing is kept and no answer stands.
-fn mark_fits(way: Way, scheme: Scheme, untouched: bool, mark: MarkPlace) -> bool
+fn mark_fits(way: Way, scheme: Scheme, untouched: bool, mark: Option<ByteOrder>) -> bool
     ensures { result ≡ mark_fits way scheme untouched mark }
 {
     match scheme {
-        Scheme::Utf8 => is_ahead(mark),
-        Scheme::Utf32Be => is_ahead(mark),
-        Scheme::Utf32Le => is_ahead(mark),
+        Scheme::Utf8 | Scheme::Utf32Be | Scheme::Utf32Le => mark.is_none(),
         Scheme::Utf32 => match way {
             Way::FromUnicode => true,
             Way::ToUnicode => match mark {
-                MarkPlace::Ahead => untouched,
-                MarkPlace::Behind(byte_order) => match byte_order {
-                    ByteOrder::Big => true,
-                    ByteOrder::Little => false,
-                },
+                None => untouched,
+                Some(ByteOrder::Big) => true,
+                Some(ByteOrder::Little) => false,
             },
         },
     }
@@ -581,159 +477,99 @@ fn length_fits(way: Way, scheme: Scheme, n: usize, length: usize) -> bool
     ensures { result ≡ length_fits way scheme n length }
 {
     match way {
-        Way::FromUnicode => length == utf::scheme::unit(scheme),
-        Way::ToUnicode => {
-            if length < 1 {
-                return false;
-            }
-            if length < n {
-                return false;
-            }
-            length <= 4
-        }
+        Way::FromUnicode => length == scheme.unit(),
+        Way::ToUnicode => { 1 <= length && n <= length && length <= 4 }
     }
 }
 
 // Whether the answer may stand beside n kept bytes.
-fn standing_fits(way: Way, scheme: Scheme, n: usize, standing: Standing) -> bool
+fn standing_fits(way: Way, scheme: Scheme, n: usize, standing: Option<Stop>) -> bool
     ensures { result ≡ stands_fit way scheme n standing }
 {
     match standing {
-        Standing::Nothing => true,
-        Standing::Stopped(stop) => match stop {
-            Stop::CutShort => 0 < n,
-            Stop::Illegal(length) => length_fits(way, scheme, n, length),
-            Stop::Unassigned => true,
-        },
+        None | Some(Stop::Unassigned) => true,
+        Some(Stop::CutShort) => 0 < n,
+        Some(Stop::Illegal(length)) => length_fits(way, scheme, n, length),
     }
 }
 
 // Whether no answer stands.
-fn is_nothing(standing: Standing) -> bool
+fn is_nothing(standing: Option<Stop>) -> bool
     ensures { result ≡ is_nothing standing }
 {
-    match standing {
-        Standing::Nothing => true,
-        Standing::Stopped(_) => false,
-    }
+    standing.is_none()
 }
 
 // Whether nothing is kept and no answer stands.
-fn is_untouched(bytes: Code, standing: Standing) -> bool
+fn is_untouched(bytes: Code, standing: Option<Stop>) -> bool
     ensures { result ≡ (eqb bytes.len 0 and is_nothing standing) }
 {
-    if bytes.len == 0 {
-        return is_nothing(standing);
-    }
-    false
+    bytes.len == 0 && standing.is_none()
 }
 
 // Whether b is a trail byte of UTF-8.
 fn is_trail(b: u8) -> bool
     ensures { result ≡ between 128 191 b }
 {
-    if b < 0x80 {
-        return false;
-    }
-    b <= 0xbf
-}
-
-// Whether both are trail bytes.
-fn are_trails(a: u8, b: u8) -> bool
-    ensures { result ≡ (between 128 191 a and between 128 191 b) }
-{
-    if is_trail(a) {
-        return is_trail(b);
-    }
-    false
+    0x80 <= b && b <= 0xbf
 }
 
 // Whether these are one or two trail bytes.
 fn is_trailing(s: &[u8]) -> bool
     ensures { result ≡ trailing s.now }
 {
-    if s.len() == 1 {
-        return is_trail(s[0]);
+    match s {
+        &[a] => is_trail(a),
+        &[a, b] => is_trail(a) && is_trail(b),
+        _ => false,
     }
-    if s.len() == 2 {
-        return are_trails(s[0], s[1]);
-    }
-    false
 }
 
 // The same where skipping in UTF-8 may keep them.
 fn trails_in(scheme: Scheme, skip: bool, s: &[u8]) -> bool
     ensures { result ≡ trails_in scheme skip s.now }
 {
-    match scheme {
-        Scheme::Utf8 => {
-            if skip {
-                return is_trailing(s);
-            }
-            false
-        }
-        Scheme::Utf32Be => false,
-        Scheme::Utf32Le => false,
-        Scheme::Utf32 => false,
-    }
+    matches!(scheme, Scheme::Utf8) && skip && is_trailing(s)
 }
 
 // Whether the states cut a sequence short.
 fn is_short_cut(cut: Cut) -> bool
     ensures { result ≡ is_short_cut cut }
 {
-    match cut {
-        Cut::Complete(_, _) => false,
-        Cut::Stopped(stop) => match stop {
-            CutStop::CutShort => true,
-            CutStop::Illegal(_) => false,
-        },
-    }
+    matches!(cut, Cut::Stopped(CutStop::CutShort))
 }
 
 // Whether a sequence of Unicode is cut short.
 fn is_short(sequence: Sequence) -> bool
     ensures { result ≡ is_short sequence }
 {
-    match sequence {
-        Sequence::Scalar(_, _) => false,
-        Sequence::Stopped(stop) => match stop {
-            Stop::CutShort => true,
-            Stop::Illegal(_) => false,
-            Stop::Unassigned => false,
-        },
-    }
+    matches!(sequence, Sequence::Stopped(Stop::CutShort))
 }
 
 // Whether kept bytes begin a sequence, or are trail bytes that skipping keeps.
-fn is_begun(way: Way, scheme: Scheme, states: &[u16], skip: bool, s: &[u8]) -> bool
-    ensures { result ≡ begun way scheme (step_at states.now) skip s.now }
+fn is_begun(way: Way, scheme: Scheme, table: &Table, skip: bool, s: &[u8]) -> bool
+    ensures { result ≡ begun way scheme (steps_of table.now) skip s.now }
 {
     match way {
-        Way::ToUnicode => is_short_cut(table::states::cut_one(states, 0, s)),
-        Way::FromUnicode => {
-            if is_short(utf::scheme::decode(scheme, s)) {
-                return true;
-            }
-            trails_in(scheme, skip, s)
-        }
+        Way::ToUnicode => is_short_cut(table.cut(s)),
+        Way::FromUnicode => { is_short(scheme.decode(s)) || trails_in(scheme, skip, s) }
     }
 }
 
 // The same of the bytes that a code holds, at most three.
-fn is_begun_by(way: Way, scheme: Scheme, states: &[u16], skip: bool, bytes: Code) -> bool
+fn is_begun_by(way: Way, scheme: Scheme, table: &Table, skip: bool, bytes: Code) -> bool
     requires { bytes.len ≤ 3 }
-    ensures { result ≡ begun way scheme (step_at states.now) skip (bytes_of bytes) }
+    ensures { result ≡ begun way scheme (steps_of table.now) skip (bytes_of bytes) }
 {
     let mut buffer = [0u8; 3];
     let n = bytes.len as usize;
     crate::put_bytes(bytes.bits, n, &mut buffer, 0);
-    is_begun(way, scheme, states, skip, &buffer[..n])
+    is_begun(way, scheme, table, skip, &buffer[..n])
 }
 
 // Whether what was handed over is a kept state: the test behind 42.
-fn kept_fits(way: Way, scheme: Scheme, states: &[u16], settings: Settings, kept: Kept) -> bool
-    ensures { result ≡ kept_fits way scheme (step_at states.now) settings kept }
+fn kept_fits(way: Way, scheme: Scheme, table: &Table, settings: Settings, kept: Kept) -> bool
+    ensures { result ≡ kept_fits way scheme (steps_of table.now) settings kept }
 {
     let bytes = kept.bytes;
     let mark = kept.mark;
@@ -747,42 +583,29 @@ fn kept_fits(way: Way, scheme: Scheme, states: &[u16], settings: Settings, kept:
     if !standing_fits(way, scheme, bytes.len as usize, standing) {
         return false;
     }
-    is_begun_by(way, scheme, states, settings.skip, bytes)
-}
-
-// Whether a call goes on, or ends at once, with nothing done.
-#[derive(Clone, Copy)]
-pub enum Guarded {
-    Ends(PieceEnd),
-    GoesOn,
+    is_begun_by(way, scheme, table, settings.skip, bytes)
 }
 
 // What every call asks first: the test behind 60, that behind 42, and whether an answer stands.
-fn guard(
+fn guard<'a>(
     way: Way,
-    rec: Record,
-    states: &[u16],
-    codes: &[u32],
-    infos: &[u32],
-    order: &[u32],
+    lent: Lent<'a>,
     kept: Kept,
     settings: Settings,
     scheme: Scheme,
-) -> Guarded
-    ensures { let m =
-        slices states.now codes.now infos.now order.now in
-        Guards way scheme rec m settings kept result }
+) -> Result<Table<'a>, PieceEnd>
+    ensures { Guards way scheme lent.entry.rec (memory_of lent.entry) settings kept result }
 {
-    if !table::valid::memory_valid(rec, states, codes, infos, order) {
-        return Guarded::Ends(PieceEnd::Ended(RunEnd::BadTable));
-    }
-    if !kept_fits(way, scheme, states, settings, kept) {
-        return Guarded::Ends(PieceEnd::BadKept);
+    let Ok(table) = Table::new(lent) else {
+        return Err(PieceEnd::Ended(RunEnd::BadTable));
+    };
+    if !kept_fits(way, scheme, &table, settings, kept) {
+        return Err(PieceEnd::BadKept);
     }
     let standing = kept.standing;
     match standing {
-        Standing::Stopped(stop) => Guarded::Ends(PieceEnd::Ended(RunEnd::Stopped(stop))),
-        Standing::Nothing => Guarded::GoesOn,
+        Some(stop) => Err(PieceEnd::Ended(RunEnd::Stopped(stop))),
+        None => Ok(table),
     }
 }
 
@@ -790,38 +613,35 @@ fn guard(
 // kept bytes and piece, as one text.
 pub fn convert_piece(
     way: Way,
-    rec: Record,
-    states: &[u16],
-    codes: &[u32],
-    infos: &[u32],
-    order: &[u32],
+    lent: Lent,
     kept: Kept,
     input: &[u8],
     out: &mut [u8],
     settings: Settings,
     scheme: Scheme,
 ) -> Pieced
-    ensures { let m =
-        slices states.now codes.now infos.now order.now in
-        let old = out.old in
-        let a = piece_tested way scheme limits rec m settings kept input.now (length old) in
-        (result ≡ answered_of a)
-        × (out.new ≡ put_bytes a.bytes old)
-        × (piece_number result.end ≡ piece_number a.end)
-        × (piece_length result.end ≡ piece_length a.end) }
+    ensures answer { let a =
+        piece_tested way scheme limits lent.entry.rec (memory_of lent.entry) settings kept input.now (length out.old) in
+        result ≡ answered_of a }
+    ensures written { let a =
+        piece_tested way scheme limits lent.entry.rec (memory_of lent.entry) settings kept input.now (length out.old) in
+        out.new ≡ put_bytes a.bytes out.old }
+    ensures number { let a =
+        piece_tested way scheme limits lent.entry.rec (memory_of lent.entry) settings kept input.now (length out.old) in
+        piece_number result.end ≡ piece_number a.end }
+    ensures illegal { let a =
+        piece_tested way scheme limits lent.entry.rec (memory_of lent.entry) settings kept input.now (length out.old) in
+        piece_length result.end ≡ piece_length a.end }
 {
-    match guard(
-        way, rec, states, codes, infos, order, kept, settings, scheme,
-    ) {
-        Guarded::Ends(end) => idle(end, kept),
-        Guarded::GoesOn => behind_due(
-            way, rec, states, codes, infos, order, kept, input, out, settings, scheme,
-        ),
+    match guard(way, lent, kept, settings, scheme) {
+        Ok(table) => behind_due(way, &table, kept, input, out, settings, scheme),
+        Err(end) => idle(end, kept),
     }
 }
 
 // The close, where no answer stands: 51 where bytes are kept; else plain UTF-32's mark, if it is still ahead, and a
 // fresh start.
+// Way, scheme and what is kept are all that it needs.
 fn close_open(way: Way, kept: Kept, out: &mut [u8], scheme: Scheme) -> Pieced
     requires { (is_held kept.bytes ≡ true) × (is_nothing kept.standing ≡ true) }
     ensures { let old = out.old in
@@ -837,7 +657,7 @@ fn close_open(way: Way, kept: Kept, out: &mut [u8], scheme: Scheme) -> Pieced
             Kept {
                 bytes: bytes,
                 mark: mark,
-                standing: Standing::Stopped(Stop::CutShort),
+                standing: Some(Stop::CutShort),
             },
         );
     }
@@ -858,29 +678,27 @@ fn close_open(way: Way, kept: Kept, out: &mut [u8], scheme: Scheme) -> Pieced
 // The closing call of a text: 60, 42, the answer that stands; then the close.
 pub fn close(
     way: Way,
-    rec: Record,
-    states: &[u16],
-    codes: &[u32],
-    infos: &[u32],
-    order: &[u32],
+    lent: Lent,
     kept: Kept,
     out: &mut [u8],
     settings: Settings,
     scheme: Scheme,
 ) -> Pieced
-    ensures { let m =
-        slices states.now codes.now infos.now order.now in
-        let old = out.old in
-        let a = close_tested way scheme limits rec m settings kept (length old) in
-        (result ≡ answered_of a)
-        × (out.new ≡ put_bytes a.bytes old)
-        × (piece_number result.end ≡ piece_number a.end)
-        × (piece_length result.end ≡ piece_length a.end) }
+    ensures answer { let a =
+        close_tested way scheme limits lent.entry.rec (memory_of lent.entry) settings kept (length out.old) in
+        result ≡ answered_of a }
+    ensures written { let a =
+        close_tested way scheme limits lent.entry.rec (memory_of lent.entry) settings kept (length out.old) in
+        out.new ≡ put_bytes a.bytes out.old }
+    ensures number { let a =
+        close_tested way scheme limits lent.entry.rec (memory_of lent.entry) settings kept (length out.old) in
+        piece_number result.end ≡ piece_number a.end }
+    ensures illegal { let a =
+        close_tested way scheme limits lent.entry.rec (memory_of lent.entry) settings kept (length out.old) in
+        piece_length result.end ≡ piece_length a.end }
 {
-    match guard(
-        way, rec, states, codes, infos, order, kept, settings, scheme,
-    ) {
-        Guarded::Ends(end) => idle(end, kept),
-        Guarded::GoesOn => close_open(way, kept, out, scheme),
+    match guard(way, lent, kept, settings, scheme) {
+        Ok(_) => close_open(way, kept, out, scheme),
+        Err(end) => idle(end, kept),
     }
 }

@@ -1,19 +1,16 @@
 -- The lines of the report by what was answered on the way: the load's answer, the frame that was read, and its conversion.
-use Rattle.std.proofs.Common.{◌≡◌, ℕ, ◌+◌, ◌≤◌, Bool, true, false, List, [], length, take, drop, sym, refl, ap, ◌∙◌, arith, length-append, length-take-le, take_at, le-leb}
+use Rattle.std.proofs.Common.{◌≡◌, ℕ, ◌+◌, ◌≤◌, Bool, true, false, List, [], length, take, drop, Ok, Err, sym, refl, ap, ◌∙◌, arith, length-append, length-take-le, take_at, le-leb}
 use mathlib.Core.Option.{Option, none, some}
 use Rattle.lists.specs.Pick.{pick}
 use Rattle.lists.specs.Place.{fits, placed}
-use Rattle.table.specs.Numbers.{refusal_number}
-use Rattle.table.specs.declared.load.Answer.TheVariants.{Accepted, Refused}
-use Rattle.table.specs.declared.load.Loaded.{Loaded}
-use Rattle.table.specs.declared.load.Refusal.{Refusal}
+use Rattle.table.specs.Numbers.{refusal_number, Loaded}
+use Rattle.table.specs.declared.load.Refused.{Refused}
+use Rattle.table.specs.declared.valid.Record.{Record}
 use Rattle.convert.specs.Run.{Run, converted_of, put_out, end_number}
 use Rattle.convert.specs.declared.Converted.{Converted}
 use Rattle.frames.specs.Lines.{ok_line, refused_line, answer_line, parsed, parsed_answer, parsed_into, put_into, count_put, put_count, room_after}
 use Rattle.frames.specs.Report.{table_line}
-use Rattle.frames.specs.declared.lines.Parsed.TheVariants.{Frame, Bad}
-use Rattle.frames.specs.declared.lines.Room.{Room}
-use Rattle.frames.specs.declared.lines.Room.TheVariants.{Put, Full}
+use Rattle.std.specs.Prelude.{Option as Returned, Some, None}
 use Rattle.frames.proofs.RoundTrip.{parsed-short}
 
 -- a conversion's answer, and the text that it left
@@ -34,41 +31,41 @@ module _ (r : Run) (old text : List ℕ) (d : Converted) (e : d ≡ converted_of
 
 -- a frame that was read stands at the front of memory that takes 4,096 bytes
 module _ (old : List ℕ) (room : 4096 ≤ length old) where
-  frame-by : (o : Option (List ℕ)) → ((s : List ℕ) → o ≡ some s → length s ≤ 4096) → (n : ℕ) → Frame n ≡ parsed_answer old o
+  frame-by : (o : Option (List ℕ)) → ((s : List ℕ) → o ≡ some s → length s ≤ 4096) → (n : ℕ) → Some n ≡ parsed_answer old o
       → (o ≡ some (take n (parsed_into old o))) × (n ≤ length (parsed_into old o))
   unfolding parsed_answer parsed_into put_into
   frame-by none short n e = let z : ◌≡◌ {A = ℕ} 0 1 = cc in absurd (omega arith)
   frame-by (some s) short n e =
       let l = short s refl in
       let t = le-leb (0 + length s) (length old) (omega arith) in
-      let m : Frame n ≡ Frame (length s) = e ∙ simp t in
+      let m : Some n ≡ Some (length s) = e ∙ simp t in
       let k : length s ≡ n = cc in
       simp t (ap some (sym (take_at s (drop (0 + length s) old) n k)), rw (length-append s (drop (0 + length s) old)) (omega arith))
 
-  bad-by : (o : Option (List ℕ)) → ((s : List ℕ) → o ≡ some s → length s ≤ 4096) → Bad ≡ parsed_answer old o → o ≡ none
+  bad-by : (o : Option (List ℕ)) → ((s : List ℕ) → o ≡ some s → length s ≤ 4096) → None ≡ parsed_answer old o → o ≡ none
   unfolding parsed_answer
   bad-by none short e = refl
   bad-by (some s) short e =
       let l = short s refl in
-      let m : Bad ≡ Frame (length s) = e ∙ simp (le-leb (0 + length s) (length old) (omega arith)) in
+      let m : None ≡ Some (length s) = e ∙ simp (le-leb (0 + length s) (length old) (omega arith)) in
       let z : ◌≡◌ {A = ℕ} 0 1 = cc in
       absurd (omega arith)
 
-  pub Frame⇒parsed : (line new : List ℕ) (n : ℕ) → new ≡ parsed_into old (parsed line) → Frame n ≡ parsed_answer old (parsed line)
+  pub Some⇒parsed : (line new : List ℕ) (n : ℕ) → new ≡ parsed_into old (parsed line) → Some n ≡ parsed_answer old (parsed line)
       → (some (take n new) ≡ parsed line) × (n ≤ length new)
-  Frame⇒parsed line new n w e = let r = frame-by (parsed line) (parsed-short line) n e in (rw w (sym r.0), rw w r.1)
+  Some⇒parsed line new n w e = let r = frame-by (parsed line) (parsed-short line) n e in (rw w (sym r.0), rw w r.1)
 
-  pub Bad⇒parsed : (line : List ℕ) → Bad ≡ parsed_answer old (parsed line) → parsed line ≡ none
-  Bad⇒parsed line e = bad-by (parsed line) (parsed-short line) e
+  pub None⇒parsed : (line : List ℕ) → None ≡ parsed_answer old (parsed line) → parsed line ≡ none
+  None⇒parsed line e = bad-by (parsed line) (parsed-short line) e
 
 -- a text that is put is as good as its equal
-pub put_into-≡ : (old : List ℕ) (at : ℕ) {text other : List ℕ} → text ≡ other → (room : Room) (new : List ℕ)
+pub put_into-≡ : (old : List ℕ) (at : ℕ) {text other : List ℕ} → text ≡ other → (room : Returned ℕ) (new : List ℕ)
     → (room ≡ room_after old at text) × (new ≡ put_into old at text) → (room ≡ room_after old at other) × (new ≡ put_into old at other)
 put_into-≡ old at e room new w = (rw (← e) w.0, rw (← e) w.1)
 
 -- what stands at the front of old after a text was put there
 module _ (old text : List ℕ) where
-  pub count-is : (n : ℕ) (room : Room) → n ≡ count_put room → room ≡ room_after old 0 text → n ≡ put_count old text
+  pub count-is : (n : ℕ) (room : Returned ℕ) → n ≡ count_put room → room ≡ room_after old 0 text → n ≡ put_count old text
   unfolding put_count
   count-is n room e h = e ∙ ap count_put h
 
@@ -76,12 +73,12 @@ module _ (old text : List ℕ) where
   unfolding put_count room_after put_into
   count_fits = go (fits old 0 text) refl
     where
-      go : (t : Bool) → fits old 0 text ≡ t → count_put (pick t (Put (0 + length text)) Full) ≤ length (pick t (placed old 0 text) old)
+      go : (t : Bool) → fits old 0 text ≡ t → count_put (pick t (Some (0 + length text)) None) ≤ length (pick t (placed old 0 text) old)
       go true e = omega (arith, length-append text (drop (0 + length text) old))
       go false e = omega arith
 
   -- the answer of a function that puts a text at the front and counts it
-  pub counted-put : (n : ℕ) (room : Room) (new : List ℕ) → n ≡ count_put room → (room ≡ room_after old 0 text) × (new ≡ put_into old 0 text)
+  pub counted-put : (n : ℕ) (room : Returned ℕ) (new : List ℕ) → n ≡ count_put room → (room ≡ room_after old 0 text) × (new ≡ put_into old 0 text)
       → ((n ≡ put_count old text) × (new ≡ put_into old 0 text)) × ((n ≤ length new) × (n ≡ length (take n new)))
   counted-put n room new e w =
       let k = count-is n room e w.0 in
@@ -95,10 +92,10 @@ put-nothing old = let t = le-leb 0 (length old) (omega arith) in (simp t, simp t
 
 -- the table's line, by the answer
 module _ (l : Loaded) where
-  pub accepted-line : l.answer ≡ Accepted → ok_line l.table.mappings ≡ table_line l
+  pub accepted-line : (rec : Record) → l ≡ Ok rec → ok_line rec.mappings ≡ table_line l
   unfolding table_line
-  accepted-line e = rw e
+  accepted-line rec e = rw e
 
-  pub refused-line : (x : Refusal) → l.answer ≡ Refused x → refused_line (refusal_number x) l.line ≡ table_line l
+  pub refused-line : (x : Refused) → l ≡ Err x → refused_line (refusal_number x.why) x.line ≡ table_line l
   unfolding table_line
   refused-line x e = rw e

@@ -1,34 +1,10 @@
 -- Decimal digits: how many a number has, and the last of them stored first.
-use Rattle.std.proofs.Common.{◌≡◌, ℕ, zero, suc, ◌+◌, ◌-◌, ◌*◌, ◌/◌, ◌%◌, ◌^◌, ◌<◌, ◌≤◌, List, [], ◌∷◌, length, set, refl, ap, ◌∙◌, pow-suc, arith, length-append}
+use Rattle.std.proofs.Common.{◌≡◌, ℕ, zero, suc, ◌+◌, ◌-◌, ◌*◌, ◌/◌, ◌%◌, ◌^◌, ◌<◌, ◌≤◌, List, [], ◌∷◌, length, set, refl, ◌∙◌, pow-suc, arith, length-append}
 use lib.Seq.{sets}
 use Rattle.lists.proofs.Stores.{sets-++, set-sets}
 use Rattle.frames.specs.Lines.{digits_of, more_digits, decimal_count, decimal_of}
 
--- n steps are enough
-steps-same : (f g n : ℕ) → n ≤ f → n ≤ g → more_digits f n ≡ more_digits g n
-unfolding more_digits
-steps-same zero zero zero h k = refl
-steps-same zero (suc g) zero h k = refl
-steps-same (suc f) zero zero h k = refl
-steps-same (suc f) (suc g) zero h k = refl
-steps-same zero g (suc n) h k = absurd (omega arith)
-steps-same (suc f) zero (suc n) h k = absurd (omega arith)
-steps-same (suc f) (suc g) (suc n) h k = ap suc (steps-same f g (suc n / 10) (omega arith) (omega arith))
-
-pub count-start : (n : ℕ) → 1 + more_digits (n / 10) (n / 10) ≡ decimal_count n
-unfolding decimal_count
-count-start n = omega (arith, steps-same (n / 10) n (n / 10) (omega arith) (omega arith))
-
-pub count_next : (n : ℕ) → 0 < n → more_digits n n ≡ suc (more_digits (n / 10) (n / 10))
-unfolding more_digits
-count_next zero h = absurd (omega arith)
-count_next (suc n) h = ap suc (steps-same n (suc n / 10) (suc n / 10) (omega arith) (omega arith))
-
-pub count_none : (n : ℕ) → n ≤ 0 → more_digits n n ≡ 0
-unfolding more_digits
-count_none zero h = refl
-count_none (suc n) h = absurd (omega arith)
-
+-- a number below 10 ^ k has at most k digits, and one from there on has more
 more-le : (k f n : ℕ) → n < 10 ^ k → more_digits f n ≤ k
 unfolding more_digits
 more-le k zero zero h = omega arith
@@ -39,6 +15,32 @@ more-le (suc k) (suc f) (suc n) h =
     let e : 10 ^ suc k ≡ 10 ^ k * 10 = pow-suc 10 k in
     let ih : more_digits f (suc n / 10) ≤ k = more-le k f (suc n / 10) (omega arith) in
     omega arith
+
+pow_ten : (k : ℕ) → 0 < 10 ^ k
+pow_ten zero = omega arith
+pow_ten (suc k) = omega (arith, pow-suc 10 k, pow_ten k)
+
+more-ge : (k f n : ℕ) → 10 ^ k ≤ n → n ≤ f → suc k ≤ more_digits f n
+unfolding more_digits
+more-ge k f zero h g = absurd (omega (arith, pow_ten k))
+more-ge k zero (suc n) h g = absurd (omega arith)
+more-ge zero (suc f) (suc n) h g = omega arith
+more-ge (suc k) (suc f) (suc n) h g =
+    let e : 10 ^ suc k ≡ 10 ^ k * 10 = pow-suc 10 k in
+    let ih : suc k ≤ more_digits f (suc n / 10) = more-ge k f (suc n / 10) (omega arith) (omega arith) in
+    omega arith
+
+pub count-one : (n : ℕ) → n < 10 → decimal_count n ≡ 1
+unfolding decimal_count
+count-one n h = omega (arith, more-le 0 n (n / 10) (omega arith))
+
+-- by the highest power of ten that is not above it
+pub count-power : (k n : ℕ) → 10 ^ k ≤ n → n < 10 * 10 ^ k → decimal_count n ≡ k + 1
+unfolding decimal_count
+count-power zero n h g = omega (arith, more-le 0 n (n / 10) (omega arith))
+count-power (suc k) n h g =
+    let e : 10 ^ suc k ≡ 10 ^ k * 10 = pow-suc 10 k in
+    omega (arith, more-le (suc k) n (n / 10) (omega arith), more-ge k n (n / 10) (omega arith) (omega arith))
 
 pub count-below : (k n : ℕ) → n / 10 < 10 ^ k → decimal_count n ≤ suc k
 unfolding decimal_count

@@ -1,5 +1,5 @@
 -- The lines of findings: each has at most 11 bytes, its entry's number gives it back, and they are put one after the other.
-use Rattle.std.proofs.Common.{◌≡◌, ℕ, ◌+◌, ◌*◌, ◌/◌, ◌<◌, ◌≤◌, eqb, List, [], ◌∷◌, ◌++◌, map, length, get_or, drop, sym, refl, ap, ◌∙◌, arith, length-append}
+use Rattle.std.proofs.Common.{◌≡◌, ℕ, ◌+◌, ◌*◌, ◌<◌, ◌≤◌, eqb, List, [], ◌∷◌, ◌++◌, map, length, get_or, drop, sym, refl, ap, ◌∙◌, arith, length-append}
 use lib.Seq.{sets, sets-eq, length-sets}
 use Rattle.lists.specs.Order.{All}
 use Rattle.lists.proofs.Cases.{pick-case}
@@ -14,8 +14,8 @@ use Rattle.audit.proofs.Forward.{Found}
 use Rattle.frames.specs.Lines.{decimal_count, finding_line, room_after, put_into}
 use Rattle.frames.specs.loops.Inner.{hex_count, entry_line, entry_lines}
 use Rattle.frames.specs.Pages.{finding_lines}
-use Rattle.frames.specs.declared.lines.Room.TheVariants.{Put, Full}
-use Rattle.frames.proofs.Digits.{count-start, count_none}
+use Rattle.std.specs.Prelude.{Some, None}
+use Rattle.frames.proofs.Digits.{count-one}
 use Rattle.frames.proofs.Writes.{Wrote, wrote-all, length-finding, was-put, was-full}
 
 -- each has at most 11 bytes
@@ -24,7 +24,7 @@ unfolding hex_count
 short-hex n h = pick-case (λ (m : ℕ). m ≤ 8) (eqb n 0) 1 (2 * n) (λ t. omega arith) (λ t. omega arith)
 
 one-digit : (n : ℕ) → n ≤ 4 → decimal_count n ≡ 1
-one-digit n h = omega (arith, count-start n, count_none (n / 10) (omega arith))
+one-digit n h = count-one n (omega arith)
 
 line-short : (f : Finding) → Found f → length (finding_line f.code f.cause) ≤ 11
 line-short f h = omega (arith, length-finding f.code f.cause, short-hex (length f.code) h.short, one-digit f.cause h.most)
@@ -67,7 +67,7 @@ module _ {es old out : List ℕ} {i p : ℕ} (w : Putting es old out i p) where
     next-length : length (entry_lines (drop i es)) ≡ length line + length (entry_lines (drop (i + 1) es))
     next-length = ap length next-line ∙ length-append line (entry_lines (drop (i + 1) es))
 
-    pub putting-more : (q : ℕ) (new : List ℕ) → Put q ≡ room_after out p line → new ≡ put_into out p line → Putting es old new (i + 1) q
+    pub putting-more : (q : ℕ) (new : List ℕ) → Some q ≡ room_after out p line → new ≡ put_into out p line → Putting es old new (i + 1) q
     putting-more q new e k =
         let r = was-put out p line q e in
         let n : new ≡ sets out p line = k ∙ r.2 ∙ sym (sets-eq line out p r.0) in
@@ -80,7 +80,7 @@ module _ {es old out : List ℕ} {i p : ℕ} (w : Putting es old out i p) where
           room = w.room;
         }
 
-    pub putting-fits : Full ≡ room_after out p line → ⊥
+    pub putting-fits : None ≡ room_after out p line → ⊥
     putting-fits e = omega (arith, (was-full out p line e).0, next-length, w.places, w.same, w.room)
 
   pub putting-all : length es ≤ i → (p ≡ length (entry_lines es)) × (out ≡ put_into old 0 (entry_lines es))

@@ -6,7 +6,7 @@ use Rattle.utf.specs.declared.scheme.Scheme.TheVariants.{Utf8}
 use Rattle.table.specs.Limits.{limits}
 use Rattle.table.specs.Meaning.{Table}
 use Rattle.table.specs.Slices.{Slices}
-use Rattle.table.specs.Load.{read, accepted, loaded_by, given, left_in}
+use Rattle.table.specs.Load.{read, accepted, loaded_by, given, left_in, record_handed}
 use Rattle.convert.specs.Run.{Run}
 use Rattle.convert.specs.Step.{substituting}
 use Rattle.convert.specs.Convert.{to_run}
@@ -20,7 +20,7 @@ use Rattle.frames.proofs.WholeInput.{whole-input, program-reads}
 module _ (text : List ℕ) (old : Slices) (t : Table) (e : given limits text old ≡ read (accepted t)) where
   -- the conversion in the program, after the load
   abbrev pub loaded : List ℕ → Run
-  loaded = let m = left_in limits (given limits text old) old in convert_in (loaded_by (given limits text old)).table m
+  loaded = let m = left_in limits (given limits text old) old in convert_in (record_handed (loaded_by (given limits text old))) m
 
   -- the conversion by the text's table
   abbrev pub by_text : List ℕ → Run
@@ -42,4 +42,4 @@ module _ (text : List ℕ) (old : Slices) (t : Table) (e : given limits text old
       → all_text (line_report loaded) memory pieces ≡ lines_report (line_report by_text) (cut_lines (length memory) (flatten (map (λ p. p.bytes) pieces)))
   frames-by-text memory pieces h =
       let m = left_in limits (given limits text old) old in
-      read-by-text memory pieces (program-reads (loaded_by (given limits text old)).table m memory pieces h)
+      read-by-text memory pieces (program-reads (record_handed (loaded_by (given limits text old))) m memory pieces h)

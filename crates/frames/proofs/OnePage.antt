@@ -1,5 +1,5 @@
 -- One page of the audit's list: what the audit's call hands back, as lines, sums and whether there is more.
-use Rattle.std.proofs.Common.{◌≡◌, ℕ, ◌+◌, ◌*◌, ◌/◌, ◌%◌, ◌<◌, ◌≤◌, Bool, true, false, ltb, List, ◌++◌, map, length, take, drop, sym, refl, ap, ◌∙◌, subst, append_assoc, arith, lit≤, length-append, length-drop, take_at, ltb-false}
+use Rattle.std.proofs.Common.{◌≡◌, ℕ, ◌+◌, ◌*◌, ◌/◌, ◌%◌, ◌<◌, ◌≤◌, Bool, true, false, ltb, List, ◌++◌, map, length, take, drop, sym, refl, ap, ◌∙◌, subst, append_assoc, arith, lit≤, length-append, length-drop, take_at, ltb-false, ltb-true, min}
 use lib.ListN.{length-map}
 use Rattle.lists.proofs.Cases.{pick-case}
 use Rattle.lists.proofs.Front.{≤⇒length-take}
@@ -7,10 +7,13 @@ use Rattle.table.specs.Limits.{limits}
 use Rattle.table.specs.Slices.{Slices}
 use Rattle.table.specs.declared.states.Code.{Code}
 use Rattle.table.specs.declared.valid.Record.{Record}
-use Rattle.audit.specs.Audit.{Finding, Answer, entry_number, audit_tested, audited_of, space_after}
+use Rattle.std.specs.Prelude.{Result, Option as Optional}
+use Rattle.std.specs.Result.{result_err}
+use Rattle.audit.specs.Audit.{Finding, Answer, Ending, Looked, BadPosition, BadTable, entry_number, audit_tested, page_handed, audited_of}
+use Rattle.audit.specs.Audit.{ending_by, refusal_by, handed_on, space_after}
 use Rattle.audit.specs.declared.Audited.{Audited}
-use Rattle.audit.specs.declared.Ending.{Ending}
-use Rattle.audit.specs.declared.Ending.TheVariants.{Looked, BadPosition, BadTable}
+use Rattle.audit.specs.declared.AuditRefusal.{AuditRefusal}
+use Rattle.audit.proofs.Tests.{refusal-handed, ending-refusal, handed-page}
 use Rattle.audit.proofs.Forward.{entries-found, fewer-left}
 use Rattle.frames.specs.Pages.{finding_lines, page_space, page_in, more_after, listed_of, codes_left}
 use Rattle.frames.specs.loops.Inner.{entry_lines}
@@ -27,6 +30,13 @@ space-fits room =
 pub space-some : (room : ℕ) → 11 ≤ room → 1 ≤ page_space room
 unfolding page_space
 space-some room h = pick-case (λ (n : ℕ). 1 ≤ n) (ltb (room / 11) 1024) (room / 11) 1024 (λ t. omega arith) (λ t. omega arith)
+
+-- the space by the smaller of two numbers
+pub space-min : (room : ℕ) → min (room / 11) 1024 ≡ page_space room
+unfolding page_space
+space-min room =
+    pick-case (λ (n : ℕ). min (room / 11) 1024 ≡ n) (ltb (room / 11) 1024) (room / 11) 1024
+    (λ t. omega (arith, ltb-true (room / 11) 1024 t)) (λ t. omega (arith, ltb-false (room / 11) 1024 t))
 
 -- more only behind a call that looked at codes and is not finished
 pub more-looked : (e : Ending) (finished : Bool) → more_after e finished ≡ true → (e ≡ Looked) × (finished ≡ false)
@@ -55,11 +65,22 @@ module _ (rec : Record) (lent : Slices) (done : ListedSoFar) (out : List ℕ) wh
   abbrev found : List Finding
   found = page.page.entries
 
-  -- the call had the page's space, old, which is now new, and handed back r
-  module _ (old new : List ℕ) (r : Audited) (space : length old ≡ page_space (length out))
-      (is : (r ≡ audited_of (asked (length old))) × (new ≡ space_after (asked (length old)) old)) (same : length new ≡ length old) where
-    pub page-answer : (r ≡ audited_of page) × (new ≡ space_after page old)
-    page-answer = subst (λ (n : ℕ). (r ≡ audited_of (asked n)) × (new ≡ space_after (asked n) old)) space is
+  -- the call had the page's space, old, which is now new, and handed back q: handed on as r, and refused as o says
+  module _ (old new : List ℕ) (q : Result Audited AuditRefusal) (r : Audited) (o : Optional AuditRefusal) (space : length old ≡ page_space (length out))
+      (is : q ≡ audited_of (asked (length old))) (leaves : new ≡ space_after (asked (length old)) old)
+      (on : r ≡ handed_on done.position q) (refuses : o ≡ result_err q) (same : length new ≡ length old) where
+    handed : (q ≡ audited_of page) × (new ≡ space_after page old)
+    handed = subst (λ (n : ℕ). (q ≡ audited_of (asked n)) × (new ≡ space_after (asked n) old)) space (is, leaves)
+
+    pub page-answer : (r ≡ page_handed page.page) × (new ≡ space_after page old)
+    page-answer =
+        (on ∙ ap (handed_on done.position) handed.0 ∙ handed-page rec lent false done.position 18446744073709551615 (page_space (length out)), handed.1)
+
+    refused-as : o ≡ refusal_by page.ending
+    refused-as = refuses ∙ ap result_err handed.0 ∙ refusal-handed page
+
+    ended-as : ending_by o ≡ page.ending
+    ended-as = ap ending_by refused-as ∙ ending-refusal page.ending
 
     found-fit : length found ≤ length old
     found-fit =
@@ -70,11 +91,11 @@ module _ (rec : Record) (lent : Slices) (done : ListedSoFar) (out : List ℕ) wh
     written_is = ap (λ (x : Audited). x.written) page-answer.0
 
     -- what is left falls
-    pub codes-fall : more_after r.ending r.finished ≡ true → 11 ≤ length out → codes_left rec lent r.position < codes_left rec lent done.position
+    pub codes-fall : more_after (ending_by o) r.finished ≡ true → 11 ≤ length out → codes_left rec lent r.position < codes_left rec lent done.position
     codes-fall m h =
         let e = page-answer.0 in
         subst (λ (x : Audited). codes_left rec lent x.position < codes_left rec lent done.position) (sym e)
-        (page-falls rec lent done.position (length out) h (sym (ap (λ (x : Audited). more_after x.ending x.finished) e) ∙ m))
+        (page-falls rec lent done.position (length out) h (sym (λ i. more_after (ended-as i) (e i).finished) ∙ m))
 
     -- the entries stand in front of what the array has behind the lent part
     module _ (rest : List ℕ) where
@@ -108,12 +129,12 @@ module _ (rec : Record) (lent : Slices) (done : ListedSoFar) (out : List ℕ) wh
 
       -- what is handed back
       pub listed_of-≡ : (looked listed put : ℕ) (more : Bool) → looked ≡ (done.looked + r.count) % 18446744073709551616 → listed ≡ (done.listed + r.written) % 18446744073709551616
-          → put ≡ length (entry_lines (take r.written (new ++ rest))) → more ≡ more_after r.ending r.finished
-          → ◌≡◌ {A = Listed} (record { ending = r.ending; reached = record { position = r.position; looked = looked; listed = listed }; put = put; more = more }) (listed_of done page)
+          → put ≡ length (entry_lines (take r.written (new ++ rest))) → more ≡ more_after (ending_by o) r.finished
+          → ◌≡◌ {A = Listed} (record { refused = o; reached = record { position = r.position; looked = looked; listed = listed }; put = put; more = more }) (listed_of done page)
       listed_of-≡ looked listed put more a b p m =
           let e = page-answer.0 in
           let a' = a ∙ ap (λ (x : Audited). (done.looked + x.count) % 18446744073709551616) e in
           let b' = b ∙ ap (λ (x : Audited). (done.listed + x.written) % 18446744073709551616) e in
           let p' = p ∙ ap length entry_lines-finding_lines in
-          let m' = m ∙ ap (λ (x : Audited). more_after x.ending x.finished) e in
-          (λ i. record { ending = (e i).ending; reached = record { position = (e i).position; looked = a' i; listed = b' i }; put = p' i; more = m' i })
+          let m' = m ∙ (λ i. more_after (ended-as i) (e i).finished) in
+          (λ i. record { refused = refused-as i; reached = record { position = (e i).position; looked = a' i; listed = b' i }; put = p' i; more = m' i })

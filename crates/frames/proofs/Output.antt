@@ -8,8 +8,7 @@ use Rattle.utf.specs.declared.scheme.Scheme.TheVariants.{Utf8}
 use Rattle.table.specs.Limits.{limits}
 use Rattle.table.specs.Meaning.{Table}
 use Rattle.table.specs.Slices.{Slices, Lent}
-use Rattle.table.specs.Load.{Outcome, accepted, refused, Given, read, load_of, loaded_by, given, left_in}
-use Rattle.table.specs.declared.load.Answer.TheVariants.{Accepted}
+use Rattle.table.specs.Load.{Outcome, accepted, refused, Given, read, load_of, loaded_by, given, left_in, record_handed, refusal_in}
 use Rattle.table.proofs.GivenText.{given-lent}
 use Rattle.table.proofs.Counts.{record-counts}
 use Rattle.convert.specs.Run.{Run, end_number}
@@ -99,12 +98,12 @@ module _ (text : List ℕ) (old : Slices) (line : List ℕ) (pieces : List Piece
     audit-is x = let w = whole-list text old t e rooms x.listed in λ i. w.text i ++ closing_line (w.looked i) (w.listed i)
 
     accepted-put : Ends (given limits text old) → put (given limits text old) ≡ output_for (accepted t) input
-    accepted-put x = λ i. table_is i ++ only_accepted (loaded_by (e i)).answer (frames-are x i ++ audit-is x i)
+    accepted-put x = λ i. table_is i ++ only_accepted (refusal_in (loaded_by (e i))) (frames-are x i ++ audit-is x i)
 
-  by-outcome : (o : Outcome) → given limits text old ≡ read o → ((loaded_by (given limits text old)).answer ≡ Accepted → Ends (given limits text old))
+  by-outcome : (o : Outcome) → given limits text old ≡ read o → (refusal_in (loaded_by (given limits text old)) ≡ none → Ends (given limits text old))
       → put (given limits text old) ≡ output_for o input
   unfolding table_line
-  by-outcome (accepted t) e x = accepted-put t e (x (ap (λ (g : Given). (loaded_by g).answer) e))
+  by-outcome (accepted t) e x = accepted-put t e (x (ap (λ (g : Given). refusal_in (loaded_by g)) e))
   by-outcome (refused why k) e x = ap put e ∙ append-nil (output_for (refused why k) input)
 
 -- THE WHOLE OUTPUT
@@ -123,12 +122,12 @@ pub program-output : (text : List ℕ) (old : Slices) (line : List ℕ) (pieces 
     → length text ≤ 32768 → Lent limits old → 8192 ≤ length line → All (Ample 32777) pieces → All (λ (room : ℕ). 11 ≤ room) rooms
     → let l = loaded_by (given limits text old) in
     let m = left_in limits (given limits text old) old in
-    codes_left l.table m beginning < length rooms
+    codes_left (record_handed l) m beginning < length rooms
     → (pages : ℕ) × (all_put l m line pieces (take pages rooms) ≡ program_output (some text) (flatten (map (λ (p : Piece). p.bytes) pieces)))
 program-output text old line pieces rooms h r long a w few =
     let l = loaded_by (given limits text old) in
     let m = left_in limits (given limits text old) old in
-    let e = enough-pages l.table m rooms nothing_yet nothing_yet.reached w few in
-    let reads = program-reads l.table m line pieces a in
+    let e = enough-pages (record_handed l) m rooms nothing_yet nothing_yet.reached w few in
+    let reads = program-reads (record_handed l) m line pieces a in
     let put = whole-output text old line pieces (take e.pages rooms) (omega arith) r (λ x. record { long = long; read = reads; listed = e.last }) in
     (e.pages, put ∙ sym (program-text text (flatten (map (λ (p : Piece). p.bytes) pieces)) h))

@@ -1,49 +1,38 @@
 -- The partial line that memory holds, by its count; and the line at the input's end.
-use Rattle.std.proofs.Common.{◌≡◌, ℕ, ◌<◌, ◌≤◌, true, false, List, [], ◌∷◌, length, take, sym, refl, ap, ◌∙◌, append-nil, arith, length-take-le, le-leb}
+use Rattle.std.proofs.Common.{◌≡◌, ℕ, ◌<◌, ◌≤◌, true, false, List, [], ◌∷◌, length, take, sym, refl, ap, ◌∙◌, append-nil, arith, length-take-le, le-leb, eqb, eqb-true}
 use borrow.Author.Tests.{lt-leb}
 use Rattle.lists.proofs.Laws.{clash}
 use Rattle.frames.specs.Stream.{InputLine, whole, too_long, last_line, partial_in, partial_of}
+use Rattle.std.specs.Option.{option_eq}
 use Rattle.frames.specs.Report.{lines_report}
-use Rattle.frames.specs.declared.lines.Partial.{Partial}
+use Rattle.std.specs.Prelude.{Option as Returned, Some, None}
 
-module _ (line : List ℕ) (held : Partial) where
-  pub partial-long : held.long ≡ true → partial_in line held ≡ too_long
+module _ (line : List ℕ) (n : ℕ) where
+  pub partial-past : length line < n → partial_in line (Some n) ≡ too_long
   unfolding partial_in
-  partial-long h = rw h
+  partial-past l = simp (lt-leb n (length line) l)
 
-  pub partial-past : held.long ≡ false → length line < held.len → partial_in line held ≡ too_long
+  pub partial-whole : n ≤ length line → partial_in line (Some n) ≡ whole (take n line)
   unfolding partial_in
-  partial-past h l = rw h (simp (lt-leb held.len (length line) l))
+  partial-whole l = simp (le-leb n (length line) l)
 
-  pub partial-whole : held.long ≡ false → held.len ≤ length line → partial_in line held ≡ whole (take held.len line)
-  unfolding partial_in
-  partial-whole h l = rw h (simp (le-leb held.len (length line) l))
-
-  pub partial-empty : held.long ≡ false → held.len ≡ 0 → partial_in line held ≡ whole []
-  partial-empty h l = partial-whole h (omega arith) ∙ ap (λ (n : ℕ). whole (take n line)) l
-
--- the count of a partial line, where a count past the memory becomes a line that is too long
-module _ (line : List ℕ) (held : Partial) where
-  pub normalised-long : partial_in line held ≡ too_long
-      → (◌≡◌ {A = Partial} (record { len = 0; long = true }) (partial_of (partial_in line held))) × (partial_in line (record { len = 0; long = true }) ≡ partial_in line held)
+  -- the count stands for itself
+  pub count-stands : n ≤ length line → Some n ≡ partial_of (partial_in line (Some n))
   unfolding partial_of
-  normalised-long e = (sym (ap partial_of e), partial-long line (record { len = 0; long = true }) refl ∙ sym e)
+  count-stands l = ap Some (sym (length-take-le n line l)) ∙ sym (ap partial_of (partial-whole l))
 
-  pub normalised-whole : held.long ≡ false → held.len ≤ length line → (held ≡ partial_of (partial_in line held)) × (partial_in line held ≡ partial_in line held)
-  unfolding partial_of
-  normalised-whole h l =
-      let n = sym (length-take-le held.len line l) in
-      let e : held ≡ partial_of (whole (take held.len line)) = (λ i. record { len = n i; long = h i }) in
-      (e ∙ sym (ap partial_of (partial-whole line held h l)), refl)
+-- the count of an empty line, as the code tests it
+pub count-empty : (p : Returned ℕ) → true ≡ option_eq eqb p (Some 0) → p ≡ Some 0
+count-empty None e = let z : ◌≡◌ {A = ℕ} 0 1 = cc in absurd (omega arith)
+count-empty (Some n) e = ap Some (eqb-true n 0 (sym e))
 
--- a line that is too long, or has some bytes
-pub long-is-some : (l : InputLine) (p : Partial) → p ≡ partial_of l → p.long ≡ true → (l ≡ whole [] → ⊥)
+pub count-filled : (p : Returned ℕ) → false ≡ option_eq eqb p (Some 0) → p ≡ Some 0 → ⊥
+count-filled p e q = clash (ap (λ (x : Returned ℕ). option_eq eqb x (Some 0)) q) (sym e)
+
+-- a line that does not have the count of an empty one is not empty
+pub count-is-some : (l : InputLine) (p : Returned ℕ) → p ≡ partial_of l → (p ≡ Some 0 → ⊥) → (l ≡ whole [] → ⊥)
 unfolding partial_of
-long-is-some l p e h q = clash h (ap (λ (x : Partial). x.long) (e ∙ ap partial_of q))
-
-pub count-is-some : (l : InputLine) (p : Partial) → p ≡ partial_of l → (p.len ≡ 0 → ⊥) → (l ≡ whole [] → ⊥)
-unfolding partial_of
-count-is-some l p e h q = h (ap (λ (x : Partial). x.len) (e ∙ ap partial_of q))
+count-is-some l p e h q = h (e ∙ ap partial_of q)
 
 -- a line that has bytes is the last one
 pub last_some : (write : InputLine → List ℕ) (l : InputLine) → (l ≡ whole [] → ⊥) → lines_report write (last_line l) ≡ write l

@@ -9,7 +9,7 @@ use Rattle.lists.proofs.Cursors.{prefix-again}
 use Rattle.frames.specs.Stream.{InputLine, whole, too_long, extend, PieceStep, ended, unended, in_line, piece_step, partial_in, partial_of, kept_in}
 use Rattle.frames.specs.loops.Inner.{Fed, feed}
 use Rattle.frames.specs.Report.{lines_report, Reporting, stopped_in, reporting_after, on_line, reporting_from, reporting_of}
-use Rattle.frames.proofs.PartialLines.{partial-empty}
+use Rattle.frames.proofs.PartialLines.{partial-whole}
 use Rattle.frames.proofs.Pieces.{Within, extend-within, extend-none, feed-step, after_step, held_in-kept_in}
 
 -- A STEP. A line that came to its end took its LF, and no more than there is
@@ -54,7 +54,7 @@ kept-length memory too_long w = refl
 -- nothing held
 pub held_in-none : (memory : List ℕ) → partial_in memory (partial_of (whole [])) ≡ whole []
 unfolding partial_of
-held_in-none memory = partial-empty memory (partial_of (whole [])) refl refl
+held_in-none memory = partial-whole memory 0 (omega arith)
 
 -- A LAW OF EVERY CALL: it holds where nothing is left, where the piece or the space comes to its end, and of a call behind a line
 -- where it holds of the call from there on

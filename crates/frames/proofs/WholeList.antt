@@ -6,14 +6,12 @@ use Rattle.lists.proofs.Laws.{clash}
 use Rattle.table.specs.Limits.{limits}
 use Rattle.table.specs.Meaning.{steps_of}
 use Rattle.table.specs.Slices.{Slices}
-use Rattle.table.specs.Load.{loaded_by, given, left_in}
+use Rattle.table.specs.Load.{loaded_by, given, left_in, record_handed}
 use Rattle.table.specs.declared.states.Code.{Code}
 use Rattle.table.specs.declared.valid.Record.{Record}
 use Rattle.table.proofs.CodeCount.{codes-few}
-use Rattle.audit.specs.Audit.{Finding, Answer, plain_list, ending_number}
+use Rattle.audit.specs.Audit.{Finding, Answer, Ending, Looked, BadPosition, BadTable, plain_list, ending_number}
 use Rattle.audit.specs.Demand.{beginning, AuditCall, calls_of, Gets, Claims}
-use Rattle.audit.specs.declared.Ending.{Ending}
-use Rattle.audit.specs.declared.Ending.TheVariants.{Looked, BadPosition, BadTable}
 use Rattle.audit.proofs.LoadedTable.{Answered, loaded-claims}
 use Rattle.audit.proofs.WholeCount.{list-short, counts_whole}
 use Rattle.frames.specs.Lines.{finding_line}
@@ -115,7 +113,7 @@ finished-is (c ∷ l) x f u h e =
 -- THE WHOLE LIST
 pub whole-list : ListedWhole
 whole-list text old t e rooms =
-    let rec = (loaded_by (given limits text old)).table in
+    let rec = record_handed (loaded_by (given limits text old)) in
     let m = left_in limits (given limits text old) old in
     let calls = calls_for rec m beginning rooms in
     subst (λ (pages : List Shown). (last_listed nothing_yet pages).more ≡ false → WholeList t pages) (sym (pages-are rec m rooms nothing_yet.reached))

@@ -9,7 +9,7 @@ use Rattle.lists.specs.Pick.{pick}
 use Rattle.lists.specs.Place.{fits, placed}
 use Rattle.frames.proofs.Digits.{length-decimal}
 use Rattle.frames.proofs.Hex.{length-hex_of}
-use Rattle.frames.specs.declared.lines.Room.TheVariants.{Put, Full}
+use Rattle.std.specs.Prelude.{Some, None}
 
 -- a text was written into old from at on, which left out, and p is the place behind it
 pub record Wrote (old : List ℕ) (at : ℕ) (text : List ℕ) (p : ℕ) (out : List ℕ) : Type 0 where
@@ -33,7 +33,7 @@ module _ {old : List ℕ} {at : ℕ} {text : List ℕ} {p : ℕ} {out : List ℕ
       let d : digits_of count n ≡ digits_of (decimal_count n) n = ap (λ (k : ℕ). digits_of k n) c in
       wrote-more (before ++ digits_of (decimal_count n) n) q next (e ∙ rw d) (rw (length-append before (digits_of (decimal_count n) n)) (omega (arith, length-decimal n)))
 
-  pub wrote-all : at + length text ≤ length old → (Put p ≡ room_after old at text) × (out ≡ put_into old at text)
+  pub wrote-all : at + length text ≤ length old → (Some p ≡ room_after old at text) × (out ≡ put_into old at text)
   unfolding room_after put_into
   wrote-all h =
       let t = le-leb (at + length text) (length old) h in
@@ -42,7 +42,7 @@ module _ {old : List ℕ} {at : ℕ} {text : List ℕ} {p : ℕ} {out : List ℕ
 pub wrote-start : (old : List ℕ) (at : ℕ) → Wrote old at [] at old
 wrote-start old at = record { bytes = refl; place = omega arith }
 
-pub wrote_none : (old : List ℕ) (at : ℕ) (text : List ℕ) → length old < at + length text → (Full ≡ room_after old at text) × (old ≡ put_into old at text)
+pub wrote_none : (old : List ℕ) (at : ℕ) (text : List ℕ) → length old < at + length text → (None ≡ room_after old at text) × (old ≡ put_into old at text)
 unfolding room_after put_into
 wrote_none old at text h =
     let t = lt-leb (at + length text) (length old) h in
@@ -71,21 +71,21 @@ length-finding code n = simp (length-append, length-decimal, length-hex_of) (ome
 
 -- what an answer tells a caller
 module _ (old : List ℕ) (at : ℕ) (text : List ℕ) where
-  put-by : (m : ℕ) (t : Bool) → Put m ≡ pick t (Put (at + length text)) Full → (t ≡ true) × (m ≡ at + length text)
+  put-by : (m : ℕ) (t : Bool) → Some m ≡ pick t (Some (at + length text)) None → (t ≡ true) × (m ≡ at + length text)
   put-by m true e = (refl, cc)
   put-by m false e = let z : ◌≡◌ {A = ℕ} 0 1 = cc in absurd (omega arith)
 
-  full_by : (t : Bool) → Full ≡ pick t (Put (at + length text)) Full → t ≡ false
+  full_by : (t : Bool) → None ≡ pick t (Some (at + length text)) None → t ≡ false
   full_by true e = let z : ◌≡◌ {A = ℕ} 0 1 = cc in absurd (omega arith)
   full_by false e = refl
 
-  pub was-put : (m : ℕ) → Put m ≡ room_after old at text → (at + length text ≤ length old) × (m ≡ at + length text) × (put_into old at text ≡ placed old at text)
+  pub was-put : (m : ℕ) → Some m ≡ room_after old at text → (at + length text ≤ length old) × (m ≡ at + length text) × (put_into old at text ≡ placed old at text)
   unfolding room_after put_into
   was-put m e =
       let r = put-by m (fits old at text) e in
       (leb-true (at + length text) (length old) r.0, r.1, simp r.0)
 
-  pub was-full : Full ≡ room_after old at text → (length old < at + length text) × (put_into old at text ≡ old)
+  pub was-full : None ≡ room_after old at text → (length old < at + length text) × (put_into old at text ≡ old)
   unfolding room_after put_into
   was-full e =
       let r = full_by (fits old at text) e in

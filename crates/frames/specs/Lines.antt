@@ -10,10 +10,7 @@ use Rattle.lists.specs.Ascii.{ascii, byte}
 use Rattle.lists.specs.Pick.{◌and◌}
 use Rattle.lists.specs.Between.{between}
 use Rattle.lists.specs.Place.{fits, placed}
-use Rattle.frames.specs.declared.lines.Room.{Room}
-use Rattle.frames.specs.declared.lines.Room.TheVariants.{Put, Full}
-use Rattle.frames.specs.declared.lines.Parsed.{Parsed}
-use Rattle.frames.specs.declared.lines.Parsed.TheVariants.{Frame, Bad}
+use Rattle.std.specs.Prelude.{Option as Returned, Some, None}
 use Rattle.table.specs.Text.{digit_of}
 
 -- a number below 16 as a capital hexadecimal digit
@@ -88,21 +85,21 @@ unfoldable pub closing_line : ℕ → ℕ → List ℕ
 closing_line looked listed = two_numbers (ascii "LOOKED ") looked (ascii " LISTED ") listed
 
 -- the answer of putting a text into old from at on: the place after it, or that it does not fit
-unfoldable pub room_after : List ℕ → ℕ → List ℕ → Room
-room_after old at text = if fits old at text then Put (at + length text) else Full
+unfoldable pub room_after : List ℕ → ℕ → List ℕ → Returned ℕ
+room_after old at text = if fits old at text then Some (at + length text) else None
 
 -- old after that
 unfoldable pub put_into : List ℕ → ℕ → List ℕ → List ℕ
 put_into old at text = if fits old at text then placed old at text else old
 
 -- both: putting a text into old from at on answers room and leaves new
-abbrev pub Puts : List ℕ → ℕ → List ℕ → Room → List ℕ → Type 0
+abbrev pub Puts : List ℕ → ℕ → List ℕ → Returned ℕ → List ℕ → Type 0
 Puts old at text room new = (room ≡ room_after old at text) × (new ≡ put_into old at text)
 
 -- how many bytes that put: none where it does not fit
-abbrev pub count_put : Room → ℕ
-count_put (Put n) = n
-count_put Full = 0
+abbrev pub count_put : Returned ℕ → ℕ
+count_put (Some n) = n
+count_put None = 0
 
 -- how many bytes a text puts at the front of old
 unfoldable pub put_count : List ℕ → List ℕ → ℕ
@@ -136,9 +133,9 @@ unfoldable pub parsed : List ℕ → Option (List ℕ)
 parsed line = if is_dash line then some [] else if is_hex line then some (bytes_of_hex line) else none
 
 -- the answer of reading a frame into old: how many bytes it has; a frame that does not fit is bad too
-unfoldable pub parsed_answer : List ℕ → Option (List ℕ) → Parsed
-parsed_answer old none = Bad
-parsed_answer old (some s) = if fits old 0 s then Frame (length s) else Bad
+unfoldable pub parsed_answer : List ℕ → Option (List ℕ) → Returned ℕ
+parsed_answer old none = None
+parsed_answer old (some s) = if fits old 0 s then Some (length s) else None
 
 -- old after that: the frame's bytes at its front, or as it was
 unfoldable pub parsed_into : List ℕ → Option (List ℕ) → List ℕ

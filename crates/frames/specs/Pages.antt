@@ -2,17 +2,15 @@
 -- and the closing line.
 -- Cases: proofs/Cases.antt
 use Rattle.std.specs.Prelude.{if◌then◌else◌, ℕ, ◌+◌, ◌/◌, ◌%◌, Bool, true, false}
-use Rattle.std.specs.Prelude.{not, List, [], ◌∷◌, ◌++◌, length, nat_eq, nat_lt}
+use Rattle.std.specs.Prelude.{not, List, [], ◌∷◌, ◌++◌, length, nat_eq, nat_lt, None}
 use Rattle.lists.specs.Pick.{◌and◌}
 use Rattle.table.specs.Limits.{limits}
 use Rattle.lists.specs.Strings.{after}
 use Rattle.table.specs.Slices.{Slices}
 use Rattle.table.specs.declared.states.Code.{Code}
 use Rattle.table.specs.declared.valid.Record.{Record}
-use Rattle.audit.specs.Audit.{Finding, Answer, ending_number, audit_tested, complete_codes}
+use Rattle.audit.specs.Audit.{Finding, Answer, Ending, ending_number, refusal_by, audit_tested, complete_codes}
 use Rattle.audit.specs.Demand.{beginning}
-use Rattle.audit.specs.declared.Ending.{Ending}
-use Rattle.audit.specs.declared.Ending.TheVariants.{Looked}
 use Rattle.frames.specs.Lines.{finding_line}
 use Rattle.frames.specs.declared.pages.ListedSoFar.{ListedSoFar}
 use Rattle.frames.specs.declared.pages.Listed.{Listed}
@@ -55,7 +53,7 @@ more_after e finished = nat_eq (ending_number e) 0 and not finished
 abbrev pub listed_of : ListedSoFar → Answer → Listed
 listed_of done a =
     record {
-      ending = a.ending;
+      refused = refusal_by a.ending;
       reached = listed_so_far_after done a;
       put = length (finding_lines a.page.entries);
       more = more_after a.ending a.page.finished;
@@ -69,7 +67,7 @@ codes_left rec m pos = length (after (bytes_of pos) (complete_codes (table_in re
 abbrev pub nothing_yet : Listed
 nothing_yet =
     record {
-      ending = Looked;
+      refused = None;
       reached = record { position = beginning; looked = 0; listed = 0 };
       put = 0;
       more = true;

@@ -3,15 +3,12 @@
 -- Contents: the table's line; a frame's line; one call on a piece of input (`reporting_of`).
 -- Cases: proofs/Cases.antt
 use Rattle.std.specs.Prelude.{if◌then◌else◌, ℕ, zero, suc, ◌+◌, ◌-◌, false, List}
-use Rattle.std.specs.Prelude.{[], ◌∷◌, ◌++◌, length, drop, ◌==◌, nat_le}
+use Rattle.std.specs.Prelude.{[], ◌∷◌, ◌++◌, length, drop, ◌==◌, nat_le, Ok, Err}
 use Rattle.std.proofs.Math.Option.{Option, none, some}
 use Rattle.utf.specs.declared.scheme.Scheme.TheVariants.{Utf8}
 use Rattle.table.specs.Limits.{limits}
 use Rattle.table.specs.Slices.{Slices}
-use Rattle.table.specs.Numbers.{refusal_number}
-use Rattle.table.specs.declared.load.Answer.{Answer}
-use Rattle.table.specs.declared.load.Answer.TheVariants.{Accepted, Refused}
-use Rattle.table.specs.declared.load.Loaded.{Loaded}
+use Rattle.table.specs.Numbers.{Loaded, refusal_number}
 use Rattle.table.specs.declared.valid.Record.{Record}
 use Rattle.convert.specs.Run.{Run, end_number}
 use Rattle.convert.specs.Step.{substituting}
@@ -24,12 +21,9 @@ use Rattle.frames.specs.declared.report.Progress.{Progress}
 -- ## The table's line
 
 -- accepted, with the count of mappings; or refused, with number and line
-abbrev pub line_for : Loaded → Answer → List ℕ
-line_for l Accepted = ok_line l.table.mappings
-line_for l (Refused x) = refused_line (refusal_number x) l.line
-
 unfoldable pub table_line : Loaded → List ℕ
-table_line l = line_for l l.answer
+table_line (Ok rec) = ok_line rec.mappings
+table_line (Err e) = refused_line (refusal_number e.why) e.line
 
 -- ## A frame
 

@@ -1,11 +1,11 @@
 -- The lines of standard input (document 01: one frame a line), and how they are found where the input comes in pieces.
 -- Cases: proofs/Cases.antt
-use Rattle.std.specs.Prelude.{if◌then◌else◌, ℕ, ◌+◌, Bool, true, false, not, List, [], ◌∷◌}
+use Rattle.std.specs.Prelude.{if◌then◌else◌, ℕ, ◌+◌, Bool, not, List, [], ◌∷◌}
 use Rattle.std.specs.Prelude.{◌++◌, map, length, take, drop, ◌==◌, nat_le, nat_lt}
 use Rattle.lists.specs.Ascii.{byte}
 use Rattle.lists.specs.Order.{prefix_length}
 use Rattle.lists.specs.Strings.{onto}
-use Rattle.frames.specs.declared.lines.Partial.{Partial}
+use Rattle.std.specs.Prelude.{Option as Returned, Some, None}
 use Rattle.frames.specs.declared.lines.Taken.{Taken}
 use Rattle.frames.specs.declared.lines.Taken.TheVariants as taken
 
@@ -54,15 +54,15 @@ piece_step cap h s =
     let l = extend cap h (take k s) in
     if nat_lt k (length s) then ended (k + 1) l else unended l
 
--- the partial line that memory holds; a count past the memory stands for a line that is too long
-unfoldable pub partial_in : List ℕ → Partial → InputLine
-partial_in memory p =
-    if p.long then too_long else if nat_le p.len (length memory) then whole (take p.len memory) else too_long
+-- the partial line that memory holds; no count, or one past the memory, stands for a line that is too long
+unfoldable pub partial_in : List ℕ → Returned ℕ → InputLine
+partial_in memory None = too_long
+partial_in memory (Some n) = if nat_le n (length memory) then whole (take n memory) else too_long
 
--- the count by which memory holds a partial line
-unfoldable pub partial_of : InputLine → Partial
-partial_of (whole s) = record { len = length s; long = false }
-partial_of too_long = record { len = 0; long = true }
+-- the count by which memory holds a partial line, if it holds it
+unfoldable pub partial_of : InputLine → Returned ℕ
+partial_of (whole s) = Some (length s)
+partial_of too_long = None
 
 -- memory with a line at its front; one that is too long leaves it as it was
 unfoldable pub kept_in : List ℕ → InputLine → List ℕ

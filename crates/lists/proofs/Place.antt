@@ -1,5 +1,5 @@
 -- Laws of lists with something written into them: `fill_range`, `shift_in`, `bump`, `filled`, insertion at a place.
--- A loop that moves elements up:  shift_in-turn, shift_in-end       one that renumbers indices:  get_d-bumped, set-bumped
+-- Elements moved up by one:  shift_in-moved; one at a time:  shift_in-turn       a loop that renumbers indices:  get_d-bumped, set-bumped
 -- A loop that fills places:  spread-turn, spread_end
 use Prim.Native.Nat.{ℕ, zero, suc, ◌+◌, ◌<◌, ◌≤◌, ◌-◌}
 use mathlib.Core.Path.{◌≡◌, refl, sym, ap, ◌∙◌, subst}
@@ -8,9 +8,8 @@ use lib.ListN.{get_or, replicate, length, take, drop, set, length-append, length
 use Rattle.lists.proofs.Parts.{get_d-replicate-self, sub-suc, map-take, map-drop, map-replicate}
 use mathlib.Core.Bool.{Bool, true, false}
 use native.Mathlib.Numerals.{add-one}
-use native.Mathlib.Nat.{sub_self}
 use native.Mathlib.Omega.{arith}
-use lib.Seq.{get_or-take, take-suc-set, drop-set-lt, set_split, append_snoc, take-take, length-take-le, take_at, set_at, take-suc, get_or_at}
+use lib.Seq.{paste, get_or-take, take-suc-set, drop-set-lt, append_snoc, take-take, length-take-le, take_at, set_at, take-suc, get_or_at}
 use lib.Dec.{leb}
 use borrow.Author.Tests.{le-leb, lt-leb, leb-true, leb-false}
 use Rattle.lists.specs.Order.{All}
@@ -36,9 +35,14 @@ shift_in-turn n i c l lt fits =
     let tk : take (i + 1) (set l i c) ≡ take i l ++ (c ∷ []) = rw add-one (take-suc-set l i c li) in
     rw (drop-set-lt (n + 1) l i c ni, drop-set-lt (i + 1) l i c si, tk, append_snoc, drop-∷ l i li, sub-suc n i lt)
 
-pub shift_in-end : (n c : ℕ) (l : List ℕ) → n < length l → set l n c ≡ shift_in n n c l
+-- the elements from `at` to n - 1 moved up by one, then x in the free place
+pub shift_in-moved : (n at x : ℕ) (l : List ℕ) → at ≤ n → n < length l
+    → set (paste l (at + 1) (drop at l) (n - at)) at x ≡ shift_in n at x l
 unfolding shift_in
-shift_in-end n c l h = rw (set_split, sub_self, add-one)
+shift_in-moved n at x l h fits =
+    let tk : take (at + 1) l ≡ take at l ++ (get_or l at 0 ∷ []) = rw add-one (take-suc l at 0 (omega arith)) in
+    let e : at + 1 + (n - at) ≡ n + 1 = omega arith in
+    rw (e, tk, append_snoc, append_assoc) (set_at (take at l) (get_or l at 0) _ x at (length-take-le at l (omega arith)))
 
 -- renumbering
 bump-yes : (at v : ℕ) → at ≤ v → bump at v ≡ v + 1

@@ -12,8 +12,11 @@ use native.Mathlib.Nat.{eq-or-lt_of_le, le_of_suc-le-suc}
 use native.Mathlib.Omega.{arith}
 use lib.Dec.{eqb}
 use lib.ListN.{length, get_or, take, drop}
-use borrow.Author.Tests.{eqb-true, eq-eqb, ne_eqb}
-use Rattle.lists.proofs.Choice.{pick-false-false, pick-true-false, and-absorb, and-swap-right, and-interchange, or-implies}
+use Rattle.std.specs.List.{fold}
+use Rattle.std.specs.Int.Bits.{bit_or, or_zero_l}
+use Rattle.std.proofs.lemmas.Nat.{le_or_l}
+use borrow.Author.Tests.{eqb-true, ne_eqb}
+use Rattle.lists.proofs.Choice.{pick-true-false, and-absorb, and-swap-right, and-interchange, or-implies}
 use Rattle.lists.proofs.Parts.{take-drop-∷}
 use Rattle.lists.proofs.Order.{All-⇒, All-In⁻}
 
@@ -81,24 +84,17 @@ pub all_of-end : (f : ℕ → Bool) (l : List ℕ) (i m : ℕ) → m ≤ i → a
 unfolding all_of
 all_of-end f l i m h = let e : m - i ≡ 0 = omega arith in rw e
 
-zeros-turn : (l : List ℕ) (i m : ℕ) → i < m → i < length l
-    → zeros (take (m - i) (drop i l))
-    ≡ pick (eqb (get_or l i 0) 0) (zeros (take (m - (i + 1)) (drop (i + 1) l))) false
+-- all are zeros exactly if no bit is set in any
+any-zeros : (l : List ℕ) (a : ℕ) → eqb (fold bit_or a l) 0 ≡ pick (eqb a 0) (zeros l) false
 unfolding zeros
-zeros-turn l i m h k = rw (take-drop-∷ l i m h k)
+any-zeros [] a = sym (pick-true-false (eqb a 0))
+any-zeros (x ∷ l) zero = any-zeros l (bit_or zero x) ∙ rw (or_zero_l x)
+any-zeros (x ∷ l) (suc a) =
+    let some : suc a ≤ bit_or (suc a) x = le_or_l (suc a) x in
+    any-zeros l (bit_or (suc a) x) ∙ rw (ne_eqb (bit_or (suc a) x) 0 (λ e. omega arith), ne_eqb (suc a) 0 (λ e. omega arith))
 
--- the same in a loop that keeps whether all were zeros so far
-pub zeros-turn-yes : (l : List ℕ) (i m : ℕ) (ok : Bool) → i < m → i < length l → get_or l i 0 ≡ 0
-    → pick ok (zeros (take (m - i) (drop i l))) false ≡ pick ok (zeros (take (m - (i + 1)) (drop (i + 1) l))) false
-zeros-turn-yes l i m ok h k e = rw (zeros-turn l i m h k, eq-eqb (get_or l i 0) 0 e)
-
-pub zeros-turn-no : (l : List ℕ) (i m : ℕ) (ok : Bool) → i < m → i < length l → (get_or l i 0 ≡ 0 → ⊥)
-    → pick ok (zeros (take (m - i) (drop i l))) false ≡ false
-zeros-turn-no l i m ok h k e = rw (zeros-turn l i m h k, ne_eqb (get_or l i 0) 0 e) (pick-false-false ok)
-
-pub zeros-end : (l : List ℕ) (i m : ℕ) (ok : Bool) → m ≤ i → pick ok (zeros (take (m - i) (drop i l))) false ≡ ok
-unfolding zeros
-zeros-end l i m ok h = let e : m - i ≡ 0 = omega arith in rw e (pick-true-false ok)
+pub zeros-fold : (l : List ℕ) → eqb (fold bit_or 0 l) 0 ≡ zeros l
+zeros-fold l = any-zeros l 0
 
 pub get_d-zeros : (l : List ℕ) (i : ℕ) → zeros l ≡ true → get_or l i 0 ≡ 0
 unfolding zeros

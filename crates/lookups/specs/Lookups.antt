@@ -1,12 +1,12 @@
 -- What many look-ups in a row leave in a slice of numbers: the numbers in which codes are asked for and lines are
 -- answered, one statement for either side, and the two relations that it is said of. `CodeFound` and `PointFound` of
 -- `table` are the answers themselves.
+use Rattle.std.specs.Prelude.{Option, Some, None}
 use Rattle.std.specs.Prelude.{if◌then◌else◌, ℕ, ◌+◌, ◌*◌, ◌/◌, ◌%◌, ◌<◌, ◌≤◌, ◌≡◌, List, ltb, length, get_or}
 use Rattle.table.specs.Lookup.{CodeFound, PointFound, indicator_of}
 use Rattle.table.specs.declared.states.Code.{Code}
 use Rattle.table.specs.declared.valid.Record.{Record}
-use Rattle.table.specs.declared.lookup.Found.{Found}
-use Rattle.table.specs.declared.lookup.Found.TheVariants as found
+use Rattle.table.specs.declared.lookup.Mapping.{Mapping}
 
 -- the record that seven numbers stand for
 abbrev pub record_in : (rows mappings least most bits len sub1 : ℕ) → Record
@@ -29,24 +29,24 @@ abbrev pub code_in : ℕ → Code
 code_in n = record { bits = n % upper_unit; len = n / upper_unit }
 
 -- the line that reads a code: its code point below, 1 and its indicator's digit above; no line is 0
-abbrev pub code_number : Found → ℕ
-code_number (found.Line m) = m.point + upper_unit * (1 + indicator_of m.used)
-code_number found.Nothing = 0
+abbrev pub code_number : Option Mapping → ℕ
+code_number (Some m) = m.point + upper_unit * (1 + indicator_of m.used)
+code_number None = 0
 
 -- the line of a code point: its code's bits below, the length above; no line is 0
-abbrev pub point_number : Found → ℕ
-point_number (found.Line m) = m.code.bits + upper_unit * m.code.len
-point_number found.Nothing = 0
+abbrev pub point_number : Option Mapping → ℕ
+point_number (Some m) = m.code.bits + upper_unit * m.code.len
+point_number None = 0
 
 -- a number answers the code that another asks for
 abbrev pub AnswersCode : Record → List ℕ → List ℕ → ℕ → ℕ → Type 0
 AnswersCode rec codes infos wanted number =
-    (r : Found) × CodeFound rec codes infos (code_in wanted) r × (number ≡ code_number r)
+    (r : Option Mapping) × CodeFound rec codes infos (code_in wanted) r × (number ≡ code_number r)
 
 -- a number answers a code point
 abbrev pub AnswersPoint : Record → List ℕ → List ℕ → List ℕ → ℕ → ℕ → Type 0
 AnswersPoint rec codes infos order wanted number =
-    (r : Found) × PointFound rec codes infos order wanted r × (number ≡ point_number r)
+    (r : Option Mapping) × PointFound rec codes infos order wanted r × (number ≡ point_number r)
 
 -- the first n entries answer what was wanted there, and the others are as before
 pub record Answered (Answers : ℕ → ℕ → Type 0) (n : ℕ) (wanted before after : List ℕ) : Type 0 where

@@ -7,7 +7,8 @@ ghost use Rattle.table.specs.Lookup.{indicator_of};
 ghost use Rattle.lookups.specs.Lookups.{record_in, code_in, code_number, point_number, shorter};
 ghost use Rattle.lookups.specs.Lookups.{AnswersCode, AnswersPoint, AllAnswered};
 
-use table::lookup::{Found, Use};
+use table::lent::Lines;
+use table::lookup::{Mapping, Use, find_code, find_point};
 use table::states::Code;
 use table::valid::Record;
 
@@ -15,23 +16,22 @@ use table::valid::Record;
 const UPPER: u64 = 4294967296;
 
 // The record that seven numbers stand for.
+// Seven numbers, as C hands them over one by one.
 fn record_in(rows: u32, mappings: u32, min: u32, max: u32, bits: u32, len: u32, sub1: u32) -> Record
     ensures { result ≡ record_in rows mappings min max bits len sub1 }
 {
     Record {
-        rows: rows,
-        mappings: mappings,
-        min: min,
-        max: max,
-        subchar: Code {
-            bits: bits,
-            len: len,
-        },
+        rows,
+        mappings,
+        min,
+        max,
+        subchar: Code { bits, len },
         subchar1: sub1,
     }
 }
 
 // The code that a number asks for.
+// No `From`: the number's form is of this interface, and `Code` is another crate's.
 fn code_in(number: u64) -> Code
     ensures { result ≡ code_in number }
 {
@@ -42,6 +42,7 @@ fn code_in(number: u64) -> Code
 }
 
 // The indicator's digit of a use.
+// `Use` has no numbers of its own: the digits are those of a table's text.
 fn digit_of(used: Use) -> u64
     ensures { (result ≡ indicator_of used) × (result ≤ 3) }
 {
@@ -54,52 +55,59 @@ fn digit_of(used: Use) -> u64
 }
 
 // The line that reads a code, as a number.
-fn code_number(found: Found) -> u64
+// 0 for no line is what C is given.
+fn code_number(found: Option<Mapping>) -> u64
     ensures { result ≡ code_number found }
 {
-    let Found::Line(line) = found else {
-        return 0;
-    };
-    let used = line.used;
-    line.point as u64 + UPPER * (1 + digit_of(used))
+    match found {
+        Some(line) => line.point as u64 + UPPER * (1 + digit_of(line.used)),
+        None => 0,
+    }
 }
 
 // The line of a code point, as a number.
-fn point_number(found: Found) -> u64
+fn point_number(found: Option<Mapping>) -> u64
     ensures { result ≡ point_number found }
 {
-    let Found::Line(line) = found else {
-        return 0;
-    };
-    let code = line.code;
-    code.bits as u64 + UPPER * code.len as u64
+    match found {
+        Some(line) => line.code.bits as u64 + UPPER * line.code.len as u64,
+        None => 0,
+    }
 }
 
 // One look-up of a code.
 fn answer_code(rec: Record, codes: &[u32], infos: &[u32], wanted: u64) -> u64
     ensures { AnswersCode rec codes.now infos.now wanted result }
 {
-    let code = code_in(wanted);
-    let found = table::lookup::find_code(rec, codes, infos, code);
-    code_number(found)
+    // A search by code reads no order.
+    let lines = Lines {
+        codes,
+        infos,
+        order: &[],
+    };
+    code_number(find_code(rec, lines, code_in(wanted)))
 }
 
 // One look-up of a code point.
 fn answer_point(rec: Record, codes: &[u32], infos: &[u32], order: &[u32], wanted: u32) -> u64
     ensures { AnswersPoint rec codes.now infos.now order.now wanted result }
 {
-    let found = table::lookup::find_point(rec, codes, infos, order, wanted);
-    point_number(found)
+    point_number(find_point(
+        rec,
+        Lines {
+            codes,
+            infos,
+            order,
+        },
+        wanted,
+    ))
 }
 
 // The shorter of two lengths.
 fn shorter_of(a: usize, b: usize) -> usize
     ensures { (result ≡ shorter a b) × (result ≤ a) × (result ≤ b) }
 {
-    if a < b {
-        return a;
-    }
-    b
+    if a < b { a } else { b }
 }
 
 // Looks up each code that is wanted.
@@ -108,15 +116,14 @@ fn each_code(rec: Record, codes: &[u32], infos: &[u32], wanted: &[u64], found: &
         wanted.now found.old found.new }
 {
     let n = shorter_of(wanted.len(), found.len());
-    let mut k = 0;
-    while k < n {
+    for k in 0..n {
         found[k] = answer_code(rec, codes, infos, wanted[k]);
-        k += 1;
     }
 }
 
 // Looks up codes, as many as both slices hold. A code is asked for as its bits + 2^32 * its length; the answer is 0 for
 // no line, else the line's code point + 2^32 * (1 + its indicator's digit).
+// C lends slices and numbers one by one, and has a name for each look-up.
 #[unsafe(no_mangle)]
 pub extern "C" fn lookups_codes(
     rows: u32,
@@ -152,10 +159,8 @@ fn each_point(
         wanted.now found.old found.new }
 {
     let n = shorter_of(wanted.len(), found.len());
-    let mut k = 0;
-    while k < n {
+    for k in 0..n {
         found[k] = answer_point(rec, codes, infos, order, wanted[k]);
-        k += 1;
     }
 }
 

@@ -14,11 +14,12 @@ use Rattle.table.specs.Meaning.{Table, steps_of}
 use Rattle.table.specs.Memory.{table_in}
 use Rattle.table.specs.Valid.{valid}
 use Rattle.table.specs.declared.states.Code.{Code}
-use Rattle.audit.specs.Audit.{Finding, Answer, entry_number, audited_of, space_after, audit_on, audit_tested, is_position, refused, looked}
+use Rattle.table.specs.Load.{record_handed}
+use Rattle.audit.specs.Audit.{Finding, Answer, Ending, Looked, BadPosition, BadTable, entry_number, page_handed, ending_of, handed_on, space_after}
+use Rattle.audit.specs.Audit.{audit_on, audit_tested, is_position, refused, looked}
+use Rattle.audit.proofs.Tests.{ending-handed, handed-page}
 use Rattle.audit.specs.Demand.{InTurn, Claims}
 use Rattle.audit.specs.declared.Audited.{Audited}
-use Rattle.audit.specs.declared.Ending.{Ending}
-use Rattle.audit.specs.declared.Ending.TheVariants as ending
 use Rattle.audit.proofs.LoadedTable.{Answered, held-claims}
 use Rattle.promises.specs.Calls.{LoadCall, left_after, AcceptedAs, AuditFunctionCall, record_audited, slices_audited, fallback_of, position_of}
 use Rattle.promises.specs.Calls.{allowance_of, space_lent, space_afterwards}
@@ -30,47 +31,58 @@ abbrev answer_to : AuditFunctionCall → Answer
 answer_to c = audit_tested limits (record_audited c) (slices_audited c) (fallback_of c) (position_of c) (allowance_of c) (length (space_lent c))
 
 pub audit-answers : (c : AuditFunctionCall) → AuditsBy (answer_to c) c
-audit-answers c = record { result = c.post.0; space = c.post.1; number = c.post.2 }
+audit-answers c =
+    record {
+      result = c.post.0;
+      handed = ap (handed_on (position_of c)) c.post.0
+          ∙ handed-page (record_audited c) (slices_audited c) (fallback_of c) (position_of c) (allowance_of c) (length (space_lent c));
+      space = c.post.1;
+      number = c.post.2;
+    }
 
 -- ## A refusal
 
 -- an answer: 60, 40, or codes were looked at
 either : (pos : Code) (v b : Bool) (page : Page Finding (List ℕ))
-    → let a = pick v (pick b (looked page) (refused ending.BadPosition pos)) (refused ending.BadTable pos) in
-    (a ≡ refused ending.BadTable pos) ⊎ ((a ≡ refused ending.BadPosition pos) ⊎ (a.ending ≡ ending.Looked))
+    → let a = pick v (pick b (looked page) (refused BadPosition pos)) (refused BadTable pos) in
+    (a ≡ refused BadTable pos) ⊎ ((a ≡ refused BadPosition pos) ⊎ (a.ending ≡ Looked))
 either pos false b page = inl refl
 either pos true false page = inr (inl refl)
 either pos true true page = inr (inr refl)
 
 answer-either : (c : AuditFunctionCall)
-    → (answer_to c ≡ refused ending.BadTable (position_of c))
-    ⊎ ((answer_to c ≡ refused ending.BadPosition (position_of c)) ⊎ ((answer_to c).ending ≡ ending.Looked))
+    → (answer_to c ≡ refused BadTable (position_of c))
+    ⊎ ((answer_to c ≡ refused BadPosition (position_of c)) ⊎ ((answer_to c).ending ≡ Looked))
 unfolding audit_tested audit_on
 answer-either c = either (position_of c) (valid limits (record_audited c) (slices_audited c)) (is_position (steps_of (table_in (record_audited c) (slices_audited c))) (position_of c)) _
 
+-- how the call ended is the answer's ending
+ended : (c : AuditFunctionCall) → ending_of c.result ≡ (answer_to c).ending
+ended c = ap ending_of (audit-answers c).result ∙ ending-handed (answer_to c)
+
 -- a refusal leaves the space as it was
 refused-by : (c : AuditFunctionCall) (e : Ending) → answer_to c ≡ refused e (position_of c)
-    → AuditsBy (refused c.result.ending (position_of c)) c × (space_afterwards c ≡ space_lent c)
+    → AuditsBy (refused (ending_of c.result) (position_of c)) c × (space_afterwards c ≡ space_lent c)
 refused-by c e h =
     let a = subst (λ (x : Answer). AuditsBy x c) h (audit-answers c) in
-    let k : c.result.ending ≡ e = ap (λ (r : Audited). r.ending) a.result in
+    let k : ending_of c.result ≡ e = ended c ∙ ap (λ (x : Answer). x.ending) h in
     (subst (λ (x : Ending). AuditsBy (refused x (position_of c)) c) (sym k) a, a.space)
 
-pub audit-refuses : (c : AuditFunctionCall) → (c.result.ending ≡ ending.Looked → ⊥)
-    → AuditsBy (refused c.result.ending (position_of c)) c × (space_afterwards c ≡ space_lent c)
+pub audit-refuses : (c : AuditFunctionCall) → (ending_of c.result ≡ Looked → ⊥)
+    → AuditsBy (refused (ending_of c.result) (position_of c)) c × (space_afterwards c ≡ space_lent c)
 audit-refuses c h = go (answer-either c)
   where
-    go : (answer_to c ≡ refused ending.BadTable (position_of c))
-        ⊎ ((answer_to c ≡ refused ending.BadPosition (position_of c)) ⊎ ((answer_to c).ending ≡ ending.Looked))
-        → AuditsBy (refused c.result.ending (position_of c)) c × (space_afterwards c ≡ space_lent c)
-    go (inl e) = refused-by c ending.BadTable e
-    go (inr (inl e)) = refused-by c ending.BadPosition e
-    go (inr (inr e)) = absurd (h (ap (λ (r : Audited). r.ending) (audit-answers c).result ∙ e))
+    go : (answer_to c ≡ refused BadTable (position_of c))
+        ⊎ ((answer_to c ≡ refused BadPosition (position_of c)) ⊎ ((answer_to c).ending ≡ Looked))
+        → AuditsBy (refused (ending_of c.result) (position_of c)) c × (space_afterwards c ≡ space_lent c)
+    go (inl e) = refused-by c BadTable e
+    go (inr (inl e)) = refused-by c BadPosition e
+    go (inr (inr e)) = absurd (h (ended c ∙ e))
 
 -- ## Demand 3
 
 -- the page that a call handed back is the definition's, with the numbers of its entries
-page-is : (a : Answer) (r : Audited) (old new : List ℕ) → r ≡ audited_of a → new ≡ space_after a old → page_in r new ≡ map_entries entry_number a.page
+page-is : (a : Answer) (r : Audited) (old new : List ℕ) → r ≡ page_handed a.page → new ≡ space_after a old → page_in r new ≡ map_entries entry_number a.page
 page-is a r old new e k =
     let es = a.page.entries in
     let front : take r.written new ≡ map entry_number es =
@@ -80,14 +92,14 @@ page-is a r old new e k =
 answered : (c : AuditFunctionCall) → Answered entry_number (call_of c)
 answered c =
     let a = audit-answers c in
-    (ap (λ (r : Audited). r.ending) a.result, page-is (answer_to c) c.result (space_lent c) (space_afterwards c) a.result a.space)
+    (ended c, page-is (answer_to c) (handed_on (position_of c) c.result) (space_lent c) (space_afterwards c) a.handed a.space)
 
 all-answered : (cs : List AuditFunctionCall) → All (Answered entry_number) (map call_of cs)
 all-answered [] = tt
 all-answered (c ∷ cs) = (answered c, all-answered cs)
 
 pub all-clauses : (l : LoadCall) (t : Table) → AcceptedAs l t → (fallback : Bool) (cs : List AuditFunctionCall)
-    → InTurn l.result.table (left_after l) fallback (map call_of cs) → Claims t fallback entry_number (map call_of cs)
+    → InTurn (record_handed l.result) (left_after l) fallback (map call_of cs) → Claims t fallback entry_number (map call_of cs)
 all-clauses l t a fallback cs h =
     let f = leaves-form l t a in
-    held-claims t f.0 f.1 l.result.table (left_after l) f.2 fallback entry_number (map call_of cs) h (all-answered cs)
+    held-claims t f.0 f.1 (record_handed l.result) (left_after l) f.2 fallback entry_number (map call_of cs) h (all-answered cs)

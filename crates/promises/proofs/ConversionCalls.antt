@@ -1,4 +1,5 @@
 -- Calls of `to_unicode` and `from_unicode`: on any memory, and on what the load of a text left.
+use Rattle.std.specs.Prelude.{Option, Some, None}
 use Prim.Native.Nat.{ℕ, ◌+◌, ◌-◌, ◌*◌, ◌≤◌, ◌<◌}
 use native.Mathlib.Omega.{arith}
 use borrow.Author.Tests.{le-leb, lt-leb}
@@ -15,8 +16,6 @@ use Rattle.utf.specs.Utf32.{mark_in, mark_at}
 use Rattle.utf.specs.Scheme.{ordered_by, side_of}
 use Rattle.utf.specs.declared.utf32.ByteOrder.{ByteOrder}
 use Rattle.utf.specs.declared.utf32.ByteOrder.TheVariants.{Big, Little}
-use Rattle.utf.specs.declared.utf32.Mark.{Mark}
-use Rattle.utf.specs.declared.utf32.Mark.TheVariants as mark
 use Rattle.utf.specs.declared.scheme.Scheme.{Scheme}
 use Rattle.utf.specs.declared.scheme.Scheme.TheVariants.{Utf32Be, Utf32}
 use Rattle.utf.proofs.FourBytes.{mark-begins}
@@ -25,7 +24,7 @@ use Rattle.table.specs.States.{is_code}
 use Rattle.table.specs.Codes.{AllByte}
 use Rattle.table.specs.Meaning.{Table, steps_of}
 use Rattle.table.specs.Slices.{Slices}
-use Rattle.table.specs.Load.{loaded_by, given, left_in}
+use Rattle.table.specs.Load.{loaded_by, given, left_in, record_handed}
 use Rattle.table.specs.Valid.{valid}
 use Rattle.table.specs.declared.valid.Record.{Record}
 use Rattle.convert.specs.Run.{Run, give, after, ended_with}
@@ -49,7 +48,7 @@ use Rattle.promises.proofs.LoadCalls.{as_read, of-call, leaves-form}
 
 -- ## Either conversion
 
-module _ {Post : Out 6 of-to-unicode.ps of-to-unicode.r} (c : ConversionCall Post) where
+module _ {Post : Out 3 of-to-unicode.ps of-to-unicode.r} (c : ConversionCall Post) where
   -- another name for the run
   by-run : (r q : Run) → r ≡ q → AnswersBy r c → AnswersBy q c
   by-run r q e a = subst (λ (x : Run). AnswersBy x c) e a
@@ -71,11 +70,11 @@ module _ {Post : Out 6 of-to-unicode.ps of-to-unicode.r} (c : ConversionCall Pos
 
 pub to-answers : (c : ToCall)
     → AnswersBy (to_tested (scheme_of c) limits (record_given c) (slices_given c) (settings_of c) (input_of c) (length (output_lent c))) c
-to-answers c = record { result = c.post.0; output = c.post.1; number = c.post.2; length = c.post.3 }
+to-answers c = record { result = c.post.0; output = c.post.1.0; number = c.post.1.1.0; length = c.post.1.1.1 }
 
 pub from-answers : (c : FromCall)
     → AnswersBy (from_tested (scheme_of c) limits (record_given c) (slices_given c) (settings_of c) (input_of c) (length (output_lent c))) c
-from-answers c = record { result = c.post.0; output = c.post.1; number = c.post.2; length = c.post.3 }
+from-answers c = record { result = c.post.0; output = c.post.1.0; number = c.post.1.1.0; length = c.post.1.1.1 }
 
 pub to-refuses : (c : ToCall) → valid limits (record_given c) (slices_given c) ≡ false
     → AnswersBy (ended_with BadTable 0) c × (output_after c ≡ output_lent c)
@@ -90,12 +89,12 @@ from-refuses c e = refusing c (by-run c _ _ (pick_no _ _ _ e) (from-answers c))
 -- ## On what the load of a text left
 
 -- either conversion: where the definition on what the load left is the run by the text, so is the call
-module _ {Post : Out 6 of-to-unicode.ps of-to-unicode.r} (tested : Scheme → Record → Slices → Settings → List ℕ → ℕ → Run)
+module _ {Post : Out 3 of-to-unicode.ps of-to-unicode.r} (tested : Scheme → Record → Slices → Settings → List ℕ → ℕ → Run)
     (answers : (c : ConversionCall Post)
     → AnswersBy (tested (scheme_of c) (record_given c) (slices_given c) (settings_of c) (input_of c) (length (output_lent c))) c) where
   on-loaded : (l : LoadCall) (run : Scheme → Settings → List ℕ → ℕ → Run)
       → (let g = given limits (text_of l) (lent_to l) in
-      (e : Scheme) (s : Settings) (x : List ℕ) (n : ℕ) → tested e (loaded_by g).table (left_in limits g (lent_to l)) s x n ≡ run e s x n)
+      (e : Scheme) (s : Settings) (x : List ℕ) (n : ℕ) → tested e (record_handed (loaded_by g)) (left_in limits g (lent_to l)) s x n ≡ run e s x n)
       → (c : ConversionCall Post) → OnLoaded l c → AnswersBy (run (scheme_of c) (settings_of c) (input_of c) (length (output_lent c))) c
   on-loaded l run same c o =
       let e = scheme_of c in
@@ -154,7 +153,7 @@ module _ (l : LoadCall) (t : Table) (a : AcceptedAs l t) where
 
 -- ## Two calls on one question with different space
 
-module _ {Post : Out 6 of-to-unicode.ps of-to-unicode.r} (run : Scheme → Settings → List ℕ → ℕ → Run)
+module _ {Post : Out 3 of-to-unicode.ps of-to-unicode.r} (run : Scheme → Settings → List ℕ → ℕ → Run)
     (more : (e : Scheme) (s : Settings) (x : List ℕ) (room m : ℕ) → NotFull (run e s x room) → run e s x (room + m) ≡ run e s x room) where
   more-space : (c d : ConversionCall Post)
       → AnswersBy (run (scheme_of c) (settings_of c) (input_of c) (length (output_lent c))) c
@@ -245,6 +244,6 @@ pub plain-unmarked : (t : Table) (settings : Settings) (s : List ℕ) (room : �
     → from_run Utf32 t settings s room ≡ from_run Utf32Be t settings s room
 plain-unmarked t settings s room bytes marked = mark-none (λ u. from_side u t settings) s room (none (mark_at s) refl)
   where
-    none : (m : Mark) → mark_at s ≡ m → m ≡ mark.None
-    none mark.None e = refl
-    none (mark.Of order) e = absurd (marked order (drop 4 s) (mark-begins order s bytes e))
+    none : (m : Option ByteOrder) → mark_at s ≡ m → m ≡ None
+    none None e = refl
+    none (Some order) e = absurd (marked order (drop 4 s) (mark-begins order s bytes e))

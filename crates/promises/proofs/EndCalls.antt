@@ -8,9 +8,8 @@ use lib.ListN.{length}
 use Rattle.table.specs.Limits.{limits}
 use Rattle.table.specs.Slices.{Slices}
 use Rattle.table.specs.Memory.{record_of}
-use Rattle.table.specs.Numbers.{refusal_number}
+use Rattle.table.specs.Numbers.{refusal_number, Loaded}
 use Rattle.table.specs.Load.{Outcome, accepted, refused, load_of, loaded_as}
-use Rattle.table.specs.declared.load.Loaded.{Loaded}
 use Rattle.table.specs.declared.valid.Record.{Record}
 use Rattle.table.proofs.Counts.{record-counts, mappings-few, refused-within, numbers-few}
 use Rattle.frames.specs.Lines.{two_numbers, refused_line, closing_line}

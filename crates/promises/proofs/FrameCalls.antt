@@ -3,7 +3,6 @@
 use Prim.Native.Nat.{ℕ, ◌+◌, ◌≤◌}
 use native.Mathlib.Omega.{arith}
 use mathlib.Core.Path.{◌≡◌, refl, sym, ap, ◌∙◌, subst}
-use mathlib.Core.Bool.{false}
 use mathlib.Core.List.{List, [], ◌∷◌, ◌++◌, map}
 use lib.ListN.{length, drop}
 use lib.Seq.{drop-drop}
@@ -14,7 +13,7 @@ use Rattle.frames.specs.Lines.{put_into}
 use Rattle.frames.specs.Stream.{InputLine, whole, too_long, last_line, partial_in, partial_of}
 use Rattle.frames.specs.Report.{convert_in, line_report, lines_report, Reporting, reporting_of, progress_of}
 use Rattle.frames.specs.loops.Inputs.{Piece, calls_on, in_pieces, all_text}
-use Rattle.frames.specs.declared.lines.Partial.{Partial}
+use Rattle.std.specs.Prelude.{Option, Some}
 use Rattle.frames.specs.declared.report.Progress.{Progress}
 use Rattle.frames.proofs.PartialLines.{last_some, last_none}
 use Rattle.frames.proofs.Reports.{held_in-none, reporting-fits, reporting-held}
@@ -51,13 +50,13 @@ frames_rooms cs = map (λ (c : FramesCall). length (frames_out c)) cs
 
 module _ (rec : Record) (m : Slices) where
   -- they do what the definition says of a piece
-  record Piecewise (next : List ℕ → Partial → Type 0) (line : List ℕ) (h : InputLine) (s : List ℕ) (cs : List FramesCall) : Type 0 where
+  record Piecewise (next : List ℕ → Option ℕ → Type 0) (line : List ℕ) (h : InputLine) (s : List ℕ) (cs : List FramesCall) : Type 0 where
     text : put_by_all cs ≡ (calls_on (write rec m) line h s (frames_rooms cs)).text
     through : (calls_on (write rec m) line h s (frames_rooms cs)).unread ≡ []
     known : let r = calls_on (write rec m) line h s (frames_rooms cs) in partial_in r.memory (partial_of r.held) ≡ r.held
     then : let r = calls_on (write rec m) line h s (frames_rooms cs) in next r.memory (partial_of r.held)
 
-  on-piece : (bytes : List ℕ) (next : List ℕ → Partial → Type 0) (cs : List FramesCall) (from : ℕ) (line : List ℕ) (h : InputLine)
+  on-piece : (bytes : List ℕ) (next : List ℕ → Option ℕ → Type 0) (cs : List FramesCall) (from : ℕ) (line : List ℕ) (h : InputLine)
       → partial_in line (partial_of h) ≡ h
       → OnPiece rec m bytes next from line (partial_of h) cs → Piecewise next line h (drop from bytes) cs
   unfolding put_by_all calls_on
@@ -88,13 +87,13 @@ abbrev pub piece_of : PieceCalls → Piece
 piece_of p = record { bytes = p.bytes; rooms = frames_rooms p.calls }
 
 module _ (rec : Record) (m : Slices) where
-  record Inputwise (next : List ℕ → Partial → Type 0) (line : List ℕ) (h : InputLine) (ps : List PieceCalls) : Type 0 where
+  record Inputwise (next : List ℕ → Option ℕ → Type 0) (line : List ℕ) (h : InputLine) (ps : List PieceCalls) : Type 0 where
     text : frames_put ps ≡ (in_pieces (write rec m) line h (map piece_of ps)).text
     through : (in_pieces (write rec m) line h (map piece_of ps)).unread ≡ []
     known : let r = in_pieces (write rec m) line h (map piece_of ps) in partial_in r.memory (partial_of r.held) ≡ r.held
     then : let r = in_pieces (write rec m) line h (map piece_of ps) in next r.memory (partial_of r.held)
 
-  in-pieces : (next : List ℕ → Partial → Type 0) (ps : List PieceCalls) (line : List ℕ) (h : InputLine) → partial_in line (partial_of h) ≡ h
+  in-pieces : (next : List ℕ → Option ℕ → Type 0) (ps : List PieceCalls) (line : List ℕ) (h : InputLine) → partial_in line (partial_of h) ≡ h
       → OnPieces rec m next line (partial_of h) ps → Inputwise next line h ps
   unfolding frames_put in_pieces
   in-pieces next [] line h k o = record { text = refl; through = refl; known = k; then = o }
@@ -130,7 +129,7 @@ last-is rec m c line h k o =
 
 -- ALL LINES OF FRAMES: what the calls put is what the definitions put, and every piece is read through
 pub frames-put : (rec : Record) (m : Slices) (line : List ℕ) (ps : List PieceCalls) (c : LastCall)
-    → OnPieces rec m (AtEnd rec m c) line (record { len = 0; long = false }) ps
+    → OnPieces rec m (AtEnd rec m c) line (Some 0) ps
     → (frames_put ps ++ last_put c ≡ all_text (write rec m) line (map piece_of ps))
     × ((in_pieces (write rec m) line (whole []) (map piece_of ps)).unread ≡ [])
 unfolding partial_of

@@ -1,4 +1,5 @@
 -- Calls of `convert_piece` and `close`: on any memory, and any list of them on what the load of a text left.
+use Rattle.std.specs.Prelude.{Some, None}
 use Prim.Native.Nat.{ℕ, ◌<◌}
 use native.Mathlib.Omega.{arith}
 use mathlib.Core.Path.{◌≡◌, refl, sym, ap, ◌∙◌, subst}
@@ -18,6 +19,7 @@ use Rattle.table.specs.Limits.{limits}
 use Rattle.table.specs.Codes.{AllByte}
 use Rattle.table.specs.Meaning.{Table}
 use Rattle.table.specs.Memory.{table_in}
+use Rattle.table.specs.Load.{record_handed}
 use Rattle.convert.specs.Run.{SequenceStep, run_of}
 use Rattle.convert.specs.Pieces.{is_nothing, Carry, PieceRun, idle, is_cut_short, standing, keeping, ended_at, piece_on, unless, due_in, piece_behind}
 use Rattle.convert.specs.Pieces.{piece_in, close_in, stands_as, stands_in, carry_in, kept_as, PieceAnswer, refused_piece, answered_piece, piece_guarded, piece_tested, close_tested}
@@ -25,7 +27,6 @@ use Rattle.convert.specs.PieceClaims.{one_run, fresh_kept, PieceCall, InTurn, Cl
 use Rattle.convert.specs.declared.RunEnd.TheVariants.{AllRead, OutputFull, BadTable, Stopped}
 use Rattle.convert.specs.declared.Settings.{Settings}
 use Rattle.convert.specs.declared.pieces.Way.{Way}
-use Rattle.convert.specs.declared.pieces.Standing.TheVariants as stands
 use Rattle.convert.specs.declared.pieces.Kept.{Kept}
 use Rattle.convert.specs.declared.pieces.PieceEnd.{PieceEnd}
 use Rattle.convert.specs.declared.pieces.PieceEnd.TheVariants.{Ended, BadKept}
@@ -47,10 +48,10 @@ abbrev close_answer : PieceParts → PieceAnswer
 close_answer p = close_tested p.way p.scheme limits p.table p.memory p.settings p.came (length p.lent)
 
 pub piece-answers : (c : PieceFunctionCall) → AnswersPiece (piece_answer (piece_parts c)) (piece_parts c)
-piece-answers c = record { result = c.post.0; output = c.post.1; number = c.post.2; length = c.post.3 }
+piece-answers c = record { result = c.post.0; output = c.post.1.0; number = c.post.1.1.0; length = c.post.1.1.1 }
 
 pub close-answers : (c : CloseFunctionCall) → AnswersPiece (close_answer (close_parts c)) (close_parts c)
-close-answers c = record { result = c.post.0; output = c.post.1; number = c.post.2; length = c.post.3 }
+close-answers c = record { result = c.post.0; output = c.post.1.0; number = c.post.1.1.0; length = c.post.1.1.1 }
 
 -- ## Either, by what stands behind the tests
 
@@ -115,16 +116,16 @@ module _ (p : PieceParts) where
         subst (λ (d : Pieced). P d.end d.kept) (sym g.result) (by-guard (λ a. P a.end a.kept) bad unfit on)
 
     -- where the run's final answers are kept, so are the call's
-    final : (w : Stop) → (r.end ≡ Stopped w → r.carry.stands ≡ some w) → p.result.end ≡ Ended (Stopped w) → p.result.kept.standing ≡ stands.Stopped w
+    final : (w : Stop) → (r.end ≡ Stopped w → r.carry.stands ≡ some w) → p.result.end ≡ Ended (Stopped w) → p.result.kept.standing ≡ Some w
     final w kept =
-        answer-by (λ h k. h ≡ Ended (Stopped w) → k.standing ≡ stands.Stopped w)
+        answer-by (λ h k. h ≡ Ended (Stopped w) → k.standing ≡ Some w)
         (λ e. absurd (let z : ◌≡◌ {A = ℕ} 0 1 = cc in omega arith))
         (λ e. absurd (let z : ◌≡◌ {A = ℕ} 0 1 = cc in omega arith))
         (λ e. ap stands_as (kept (let q : r.end ≡ Stopped w = cc in q)))
 
   -- an answer that stands is given again
   stands-again : (w : Stop) (r : PieceRun) → Guarding p (unless (stands_in p.came.standing) (carry_in p.came) r)
-      → p.came.standing ≡ stands.Stopped w → memory_valid p ≡ true → kept_fitting p ≡ true → DidNothing (Ended (Stopped w)) p
+      → p.came.standing ≡ Some w → memory_valid p ≡ true → kept_fitting p ≡ true → DidNothing (Ended (Stopped w)) p
   stands-again w r g q h k =
       nothing-done (Ended (Stopped w))
       (by_answer _ _ (guarded-stands p.way p.scheme p.table p.memory p.settings p.came w q h k r) g)
@@ -151,12 +152,12 @@ bad-kept-close c = refused-kept (close_parts c) (close_run (close_parts c)) (clo
 
 pub piece-stands : (c : PieceFunctionCall) (w : Stop)
     → let p = piece_parts c in
-    p.came.standing ≡ stands.Stopped w → memory_valid p ≡ true → kept_fitting p ≡ true → DidNothing (Ended (Stopped w)) p
+    p.came.standing ≡ Some w → memory_valid p ≡ true → kept_fitting p ≡ true → DidNothing (Ended (Stopped w)) p
 piece-stands c w = stands-again (piece_parts c) w _ (piece-guarding c)
 
 pub close-stands : (c : CloseFunctionCall) (w : Stop)
     → let p = close_parts c in
-    p.came.standing ≡ stands.Stopped w → memory_valid p ≡ true → kept_fitting p ≡ true → DidNothing (Ended (Stopped w)) p
+    p.came.standing ≡ Some w → memory_valid p ≡ true → kept_fitting p ≡ true → DidNothing (Ended (Stopped w)) p
 unfolding close_in
 close-stands c w = stands-again (close_parts c) w _ (close-guarding c)
 
@@ -195,10 +196,10 @@ module _ (w : Stop) where
       (λ q e. absurd (let z : ◌≡◌ {A = ℕ} 0 1 = cc in omega arith))
       (λ e. absurd (let z : ◌≡◌ {A = ℕ} 0 1 = cc in omega arith))
 
-pub piece-final : (c : PieceFunctionCall) (w : Stop) → c.result.end ≡ Ended (Stopped w) → c.result.kept.standing ≡ stands.Stopped w
+pub piece-final : (c : PieceFunctionCall) (w : Stop) → c.result.end ≡ Ended (Stopped w) → c.result.kept.standing ≡ Some w
 piece-final c w = final (piece_parts c) (piece_run (piece_parts c)) (piece-guarding c) w (piece-keeping w (piece_parts c))
 
-pub close-final : (c : CloseFunctionCall) (w : Stop) → c.result.end ≡ Ended (Stopped w) → c.result.kept.standing ≡ stands.Stopped w
+pub close-final : (c : CloseFunctionCall) (w : Stop) → c.result.end ≡ Ended (Stopped w) → c.result.kept.standing ≡ Some w
 close-final c w = final (close_parts c) (close_run (close_parts c)) (close-guarding c) w (close-keeping w (close_parts c))
 
 -- a close answered 0 makes a fresh start
@@ -215,14 +216,14 @@ close-afresh c =
     (λ e. absurd (let z : ◌≡◌ {A = ℕ} 0 1 = cc in omega arith)))
 
 -- a close is 51 where bytes are kept and no answer stands
-close-some : (p : PieceParts) → p.came.standing ≡ stands.Nothing → 0 < p.came.bytes.len
+close-some : (p : PieceParts) → p.came.standing ≡ None → 0 < p.came.bytes.len
     → let k = carry_in p.came in
     close_run p ≡ idle (Stopped stopped.CutShort) (record { bytes = k.bytes; state = k.state; stands = some stopped.CutShort })
 close-some p q h = sym (close_in-kept p.way p.scheme p.came (ap is_nothing q) (length p.lent) h)
 
 pub close-short : (c : CloseFunctionCall)
     → let p = close_parts c in
-    memory_valid p ≡ true → kept_fitting p ≡ true → p.came.standing ≡ stands.Nothing → 0 < p.came.bytes.len
+    memory_valid p ≡ true → kept_fitting p ≡ true → p.came.standing ≡ None → 0 < p.came.bytes.len
     → (p.result.end ≡ Ended (Stopped stopped.CutShort)) × (p.after ≡ p.lent)
 close-short c h k q n =
     let p = close_parts c in
@@ -240,10 +241,10 @@ answered p a h =
 
 module _ (l : LoadCall) (way : Way) (e : Scheme) (settings : Settings) where
   abbrev pub PieceAnswered : PieceCall → Type 0
-  PieceAnswered c = answer_in c ≡ piece_tested way e limits l.result.table (left_after l) settings c.came c.piece c.room
+  PieceAnswered c = answer_in c ≡ piece_tested way e limits (record_handed l.result) (left_after l) settings c.came c.piece c.room
 
   abbrev pub CloseAnswered : PieceCall → Type 0
-  CloseAnswered c = answer_in c ≡ close_tested way e limits l.result.table (left_after l) settings c.came c.room
+  CloseAnswered c = answer_in c ≡ close_tested way e limits (record_handed l.result) (left_after l) settings c.came c.room
 
   pub pieces-answered : (cs : List PieceFunctionCall) → All (PieceOn l way e settings) (map piece_parts cs) → All PieceAnswered (map piece_call_of cs)
   pieces-answered [] o = tt
@@ -274,5 +275,5 @@ pub all-pieces : (l : LoadCall) (t : Table) → AcceptedAs l t → (way : Way) (
     → InPieces way e whole frame (map piece_call_of cs) (map close_call_of ds)
 all-pieces l t a way e settings frame bytes room enough cs ds on closed turn closing =
     let f = leaves-form l t a in
-    in-pieces t f.0 f.1 l.result.table (left_after l) f.2 way e settings frame bytes room enough (map piece_call_of cs) (map close_call_of ds)
+    in-pieces t f.0 f.1 (record_handed l.result) (left_after l) f.2 way e settings frame bytes room enough (map piece_call_of cs) (map close_call_of ds)
     turn closing (pieces-answered l way e settings cs on) (closes-answered l way e settings ds closed)

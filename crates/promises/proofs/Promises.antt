@@ -5,7 +5,7 @@ use mathlib.Core.Bool.{true}
 use Rattle.table.specs.Limits.{limits}
 use Rattle.table.specs.Meaning.{Table, steps_of}
 use Rattle.table.specs.Forms.{FormOf, SameTable, SameMemory}
-use Rattle.table.proofs.Cuts.{no-ends-zero}
+use Rattle.table.specs.Load.{record_handed}
 use Rattle.table.proofs.CodeList.{prefix-free}
 use Rattle.table.proofs.TextRead as text
 use Rattle.table.proofs.NumbersRead as numbers
@@ -35,14 +35,14 @@ use Rattle.promises.proofs.ProgramCalls as program
 
 -- two accepted texts
 one_form : (c d : LoadCall) (t u : Table) → AcceptedAs c t → AcceptedAs d u
-    → SameTable t u ↔ SameMemory limits c.result.table d.result.table (left_after c) (left_after d)
+    → SameTable t u ↔ SameMemory limits (record_handed c.result) (record_handed d.result) (left_after c) (left_after d)
 one_form c d t u a b =
     let f = load.leaves-form c t a in
     let g = load.leaves-form d u b in
     let p = (load.loaded c t a).proper in
     let q = (load.loaded d u b).proper in (
-      λ s. forms.one_form limits t u f.0 g.0 f.1 g.1 s c.result.table d.result.table (left_after c) (left_after d) f.2 g.2,
-      λ s. forms.forms-apart limits t u f.0 g.0 f.1 g.1 c.result.table d.result.table (left_after c) (left_after d) s f.2 g.2,
+      λ s. forms.one_form limits t u f.0 g.0 f.1 g.1 s (record_handed c.result) (record_handed d.result) (left_after c) (left_after d) f.2 g.2,
+      λ s. forms.forms-apart limits t u f.0 g.0 f.1 g.1 (record_handed c.result) (record_handed d.result) (left_after c) (left_after d) s f.2 g.2,
     )
 
 -- the test behind 60
@@ -57,7 +57,7 @@ demand1 =
     record {
       ask-nothing = ask-nothing;
       meet-theirs = meet-theirs;
-      load-answers = λ c. c.post;
+      load-answers = λ c. (c.post.0, c.post.1.0, c.post.1.1);
       load-refuses = refusals.load-refuses;
       refused-record = refusals.refused-record;
       refused-early = refusals.refused-early;
@@ -109,7 +109,7 @@ demand2 =
       writes-text = conversions.writes-text;
       reads-back = conversions.reads-back;
       reads-back-whole = conversions.reads-back-whole;
-      prefix-free = λ t s r i j. prefix-free (steps_of t) (no-ends-zero t.rows) 4 0 s r i j;
+      prefix-free = λ t s r i j. prefix-free (steps_of t) 4 0 s r i j;
       room-enough = conversions.room-enough;
       from-room-enough = conversions.from-room-enough;
       to-more-space = conversions.to-more-space;

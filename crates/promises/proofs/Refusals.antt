@@ -1,4 +1,5 @@
 -- Calls of `load` that refuse: exactly for which reason, with which line, and what they leave.
+use Rattle.std.specs.Prelude.{Some, None}
 use Prim.Native.Nat.{ℕ, ◌+◌, ◌-◌, ◌<◌, ◌≤◌}
 use native.Mathlib.Omega.{arith}
 use mathlib.Core.Path.{◌≡◌, refl, sym, ap, ◌∙◌, subst}
@@ -12,6 +13,8 @@ use borrow.Author.Tests.{ltb-true, ltb-false}
 use Rattle.lists.specs.Pick.{pick}
 use Rattle.lists.specs.Order.{All}
 use Rattle.lists.proofs.Order.{All-In⁻}
+use Rattle.std.specs.Prelude.{Some, None}
+use Rattle.std.proofs.Math.Option.{Option, none, some}
 use Rattle.table.specs.Limits.{Limits, limits, needed}
 use Rattle.table.specs.Keys.{Keys}
 use Rattle.table.specs.Cells.{Cell}
@@ -19,17 +22,14 @@ use Rattle.table.specs.Meaning.{Line, Table}
 use Rattle.table.specs.Text.{lines_of}
 use Rattle.table.specs.Slices.{Slices, Lent}
 use Rattle.table.specs.Memory.{Form as TableForm, record_of}
-use Rattle.table.specs.Header.{header_line_of}
+use Rattle.table.specs.Header.{ReadLine, header_line_of}
 use Rattle.table.specs.Mapping.{body_line_of, after_end_of, BodyLine, no_form, reserved, blank, ending, mapping}
 use Rattle.table.specs.Numbers.{Cond, cond, refusal_number, n1, behind_conditions, key_conditions, charmap_conditions, mapping_conditions}
 use Rattle.table.specs.FirstLine.{FirstHolds, NeverEnds, conditions_at, reading_after_all}
-use Rattle.table.specs.Load.{start, header_asks, mapping_asks, phase_asks, Outcome, accepted, refused, load_of, Given, untouched, read, zero_record, loaded_as, loaded_by, given, left_in, states_of, codes_of, infos_of, ordered_of}
-use Rattle.table.specs.declared.header.HeaderLine.{HeaderLine}
+use Rattle.table.specs.Load.{start, header_asks, mapping_asks, phase_asks, Outcome, accepted, refused, load_of, Given, untouched, read, zero_record, loaded_as, loaded_by, given, left_in, states_of, codes_of, infos_of, ordered_of, line_refused, record_handed, refusal_in}
 use Rattle.table.specs.declared.header.HeaderLine.TheVariants as header
 use Rattle.table.specs.declared.load.Phase.{Phase}
 use Rattle.table.specs.declared.load.Phase.TheVariants.{Header, Mappings, Ended}
-use Rattle.table.specs.declared.load.Answer.TheVariants.{Accepted, Refused}
-use Rattle.table.specs.declared.load.Loaded.{Loaded}
 use Rattle.table.specs.declared.load.Refusal.{Refusal}
 use Rattle.table.specs.declared.load.Refusal.TheVariants as refusal
 use Rattle.table.proofs.RunSteps.{long-enough}
@@ -46,13 +46,13 @@ use Rattle.lists.specs.Place.{filled}
 abbrev Ten : Cond → Type 0
 Ten c = 10 ≤ refusal_number c.refusal
 
-header-ten : (lim : Limits) (h : Keys) (rows : List (List Cell)) (s : List ℕ) (l : HeaderLine)
+header-ten : (lim : Limits) (h : Keys) (rows : List (List Cell)) (s : List ℕ) (l : ReadLine)
     → All Ten (header_asks lim h rows s l).conditions
 unfolding key_conditions charmap_conditions
-header-ten lim h rows s header.NoForm = (omega arith, tt)
-header-ten lim h rows s header.Blank = (omega arith, tt)
-header-ten lim h rows s header.Charmap = (omega arith, (omega arith, tt))
-header-ten lim h rows s (header.Known k v q e) = (omega arith, (omega arith, (omega arith, (omega arith, tt))))
+header-ten lim h rows s None = (omega arith, tt)
+header-ten lim h rows s (Some header.Blank) = (omega arith, tt)
+header-ten lim h rows s (Some header.Charmap) = (omega arith, (omega arith, tt))
+header-ten lim h rows s (Some (header.Known k v q e)) = (omega arith, (omega arith, (omega arith, (omega arith, tt))))
 
 behind-ten : (ended : Bool) (l : BodyLine) → All Ten (behind_conditions ended l)
 behind-ten ended l = (omega arith, (omega arith, tt))
@@ -130,16 +130,16 @@ given_by lim text m = go (n1 lim (length m.states) (length m.codes) (length m.in
 
 -- ## Which refusal, and with which line
 
-accepted-refused : (x : Refusal) → Accepted ≡ Refused x → ⊥
+accepted-refused : (x : Refusal) → ◌≡◌ {A = Option Refusal} none (some x) → ⊥
 accepted-refused x e = let z : ◌≡◌ {A = ℕ} 0 1 = cc in omega arith
 
-outcome-refused : (x : Refusal) (k : ℕ) (o : Outcome) → (loaded_as o).answer ≡ Refused x → (loaded_as o).line ≡ k → o ≡ refused x k
+outcome-refused : (x : Refusal) (k : ℕ) (o : Outcome) → refusal_in (loaded_as o) ≡ some x → line_refused (loaded_as o) ≡ k → o ≡ refused x k
 outcome-refused x k (accepted t) a l = absurd (accepted-refused x a)
 outcome-refused x k (refused y j) a l = cc
 
 -- the answer and the line of a call
 abbrev RefusedWith : LoadCall → Refusal → ℕ → Type 0
-RefusedWith c x k = (c.result.answer ≡ Refused x) × (c.result.line ≡ k)
+RefusedWith c x k = (refusal_in c.result ≡ some x) × (line_refused c.result ≡ k)
 
 -- a call whose definition gives this
 given-result : (c : LoadCall) (g : Given) → given limits (text_of c) (lent_to c) ≡ g → c.result ≡ loaded_by g
@@ -148,9 +148,9 @@ given-result c g e = answered c ∙ ap loaded_by e
 refused-for : (c : LoadCall) (x : Refusal) (k : ℕ) → RefusedWith c x k → RefusedFor c x k
 refused-for c x k h = go (given_by limits (text_of c) (lent_to c))
   where
-    refusal-given : (g : Given) → given limits (text_of c) (lent_to c) ≡ g → ((loaded_by g).answer ≡ Refused x) × ((loaded_by g).line ≡ k)
+    refusal-given : (g : Given) → given limits (text_of c) (lent_to c) ≡ g → (refusal_in (loaded_by g) ≡ some x) × (line_refused (loaded_by g) ≡ k)
     refusal-given g e =
-        (ap (λ (l : Loaded). l.answer) (sym (given-result c g e)) ∙ h.0, ap (λ (l : Loaded). l.line) (sym (given-result c g e)) ∙ h.1)
+        (ap refusal_in (sym (given-result c g e)) ∙ h.0, ap line_refused (sym (given-result c g e)) ∙ h.1)
 
     go : TooSmall limits (text_of c) (lent_to c) ⊎ (TooLong limits (text_of c) (lent_to c) ⊎ IsRead limits (text_of c) (lent_to c)) → RefusedFor c x k
     go (inl s) = let w = refusal-given _ s.given_is in let e : x ≡ refusal.MemoryTooSmall = cc in inl (s.not-lent, e, sym w.1)
@@ -167,7 +167,7 @@ for-refused c x k h = go (given_by limits (text_of c) (lent_to c)) h
         → x ≡ y → k ≡ j → RefusedWith c x k
     refusal-given y j g e q ex ek =
         let r : c.result ≡ loaded_as (refused y j) = given-result c g e ∙ q in
-        (ap (λ (l : Loaded). l.answer) r ∙ ap Refused (sym ex), ap (λ (l : Loaded). l.line) r ∙ sym ek)
+        (ap refusal_in r ∙ ap some (sym ex), ap line_refused r ∙ sym ek)
 
     go : TooSmall limits (text_of c) (lent_to c) ⊎ (TooLong limits (text_of c) (lent_to c) ⊎ IsRead limits (text_of c) (lent_to c))
         → RefusedFor c x k → RefusedWith c x k
@@ -196,11 +196,11 @@ pub data Refuses (c : LoadCall) (x : Refusal) : Type 0 where
   early : refusal_number x ≤ 2 → left_after c ≡ lent_to c → Refuses c x
   at-line : (k : ℕ) → 2 < refusal_number x → left_after c ≡ left_in limits (read (refused x k)) (lent_to c) → Refuses c x
 
-pub refuses : (c : LoadCall) (x : Refusal) → c.result.answer ≡ Refused x → Refuses c x
+pub refuses : (c : LoadCall) (x : Refusal) → refusal_in c.result ≡ some x → Refuses c x
 refuses c x a = go (given_by limits (text_of c) (lent_to c))
   where
-    refusal-given : (g : Given) → given limits (text_of c) (lent_to c) ≡ g → (loaded_by g).answer ≡ Refused x
-    refusal-given g e = ap (λ (l : Loaded). l.answer) (sym (given-result c g e)) ∙ a
+    refusal-given : (g : Given) → given limits (text_of c) (lent_to c) ≡ g → refusal_in (loaded_by g) ≡ some x
+    refusal-given g e = ap refusal_in (sym (given-result c g e)) ∙ a
 
     go : TooSmall limits (text_of c) (lent_to c) ⊎ (TooLong limits (text_of c) (lent_to c) ⊎ IsRead limits (text_of c) (lent_to c)) → Refuses c x
     go (inl s) =
@@ -212,29 +212,29 @@ refuses c x a = go (given_by limits (text_of c) (lent_to c))
         let e : refusal.TextTooLong ≡ x = cc in
         early (subst (λ (y : Refusal). refusal_number y ≤ 2) e (omega arith)) (given-left c _ s.given_is)
     go (inr (inr s)) =
-        let k = (loaded_as (load_of limits (text_of c))).line in
+        let k = line_refused (loaded_as (load_of limits (text_of c))) in
         let o = outcome-refused x k (load_of limits (text_of c)) (refusal-given _ s.given_is) refl in
         let w = line-ten limits (lines_of (text_of c)) x k ((refused-exactly limits (text_of c) x k).0 o) in
         at-line k (let z = w.0 in omega arith) (given-left c _ (s.given_is ∙ ap read o))
 
-pub refused-record : (c : LoadCall) (x : Refusal) → c.result.answer ≡ Refused x → c.result.table ≡ zero_record
+pub refused-record : (c : LoadCall) (x : Refusal) → refusal_in c.result ≡ some x → record_handed c.result ≡ zero_record
 refused-record c x a =
     let g = given limits (text_of c) (lent_to c) in
-    ap (λ (l : Loaded). l.table) (answered c) ∙ go g (ap (λ (l : Loaded). l.answer) (sym (answered c)) ∙ a)
+    ap record_handed (answered c) ∙ go g (ap refusal_in (sym (answered c)) ∙ a)
   where
-    go : (g : Given) → (loaded_by g).answer ≡ Refused x → (loaded_by g).table ≡ zero_record
+    go : (g : Given) → refusal_in (loaded_by g) ≡ some x → record_handed (loaded_by g) ≡ zero_record
     go (untouched y) e = refl
     go (read (refused y k)) e = refl
     go (read (accepted t)) e = absurd (accepted-refused x e)
 
-pub refused-early : (c : LoadCall) (x : Refusal) → c.result.answer ≡ Refused x → refusal_number x ≤ 2 → left_after c ≡ lent_to c
+pub refused-early : (c : LoadCall) (x : Refusal) → refusal_in c.result ≡ some x → refusal_number x ≤ 2 → left_after c ≡ lent_to c
 refused-early c x a h = go (refuses c x a)
   where
     go : Refuses c x → left_after c ≡ lent_to c
     go (early l e) = e
     go (at-line k l e) = absurd (omega arith)
 
-pub refused-later : (c : LoadCall) (x : Refusal) → c.result.answer ≡ Refused x → 2 < refusal_number x → AllZeroed (lent_to c) (left_after c)
+pub refused-later : (c : LoadCall) (x : Refusal) → refusal_in c.result ≡ some x → 2 < refusal_number x → AllZeroed (lent_to c) (left_after c)
 refused-later c x a h = go (refuses c x a)
   where
     go : Refuses c x → AllZeroed (lent_to c) (left_after c)

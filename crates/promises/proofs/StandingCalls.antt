@@ -1,4 +1,5 @@
 -- What calls and closes in turn keep is a kept state to the next, and a final answer among it is given again.
+use Rattle.std.specs.Prelude.{Some, None}
 use Prim.Native.Nat.{ℕ, ◌<◌}
 use native.Mathlib.Omega.{arith}
 use borrow.Author.Tests.{lt-ltb, ne_eqb}
@@ -21,6 +22,7 @@ use Rattle.table.specs.Codes.{bytes_of, AllByte}
 use Rattle.table.specs.Meaning.{Table, steps_of}
 use Rattle.table.specs.Memory.{table_in}
 use Rattle.table.specs.Valid.{valid}
+use Rattle.table.specs.Load.{record_handed}
 use Rattle.table.proofs.Packing.{length-unpacked, unpacked-none}
 use Rattle.convert.specs.Pieces.{piece_in, close_in, is_held, is_nothing, mark_fits, stands_fit, begun, kept_fits, carry_in, kept_as}
 use Rattle.convert.specs.Pieces.{PieceAnswer, piece_tested, close_tested}
@@ -29,8 +31,6 @@ use Rattle.convert.specs.declared.RunEnd.TheVariants.{AllRead, OutputFull, Stopp
 use Rattle.convert.specs.declared.Settings.{Settings}
 use Rattle.convert.specs.declared.pieces.Way.{Way}
 use Rattle.convert.specs.declared.pieces.Way.TheVariants.{ToUnicode, FromUnicode}
-use Rattle.convert.specs.declared.pieces.MarkPlace.TheVariants.{Ahead}
-use Rattle.convert.specs.declared.pieces.Standing.TheVariants as stands
 use Rattle.convert.specs.declared.pieces.Kept.{Kept}
 use Rattle.convert.specs.declared.pieces.PieceEnd.{PieceEnd}
 use Rattle.convert.specs.declared.pieces.PieceEnd.TheVariants.{Ended, BadKept}
@@ -98,7 +98,7 @@ module _ (way : Way) (e : Scheme) (t : Table) (settings : Settings) where
       (and_yes (marks k) (answers k and begins k) f.marked (and_yes (answers k) (begins k) f.answered f.started))
 
   -- a fresh start fits
-  mark-ahead : (way : Way) (e : Scheme) → mark_fits way e true Ahead ≡ true
+  mark-ahead : (way : Way) (e : Scheme) → mark_fits way e true None ≡ true
   mark-ahead way scheme.Utf8 = refl
   mark-ahead way scheme.Utf32Be = refl
   mark-ahead way scheme.Utf32Le = refl
@@ -120,7 +120,7 @@ module _ (way : Way) (e : Scheme) (t : Table) (settings : Settings) where
     fits-back : fits (kept_as (carry_in k)) ≡ true
     fits-back = ap fits (kept_as-carry_in k (fits⇒Fitting k f).is-held) ∙ f
 
-    fits-short : 0 < k.bytes.len → fits (record { bytes = k.bytes; mark = k.mark; standing = stands.Stopped stopped.CutShort }) ≡ true
+    fits-short : 0 < k.bytes.len → fits (record { bytes = k.bytes; mark = k.mark; standing = Some stopped.CutShort }) ≡ true
     fits-short n =
         let p = fits⇒Fitting k f in
         let some : eqb k.bytes.len 0 ≡ false = ne_eqb k.bytes.len 0 (λ z. omega arith) in
@@ -139,7 +139,7 @@ module _ (way : Way) (e : Scheme) (t : Table) (settings : Settings) where
         (λ n. ap fits (λ i. record {
           bytes = code_of-bytes_of k.bytes (fits⇒Fitting k f).is-held i;
           mark = place_at-state_at k.mark i;
-          standing = stands.Stopped stopped.CutShort;
+          standing = Some stopped.CutShort;
         }) ∙ fits-short (omega (arith, length-unpacked k.bytes.len k.bytes.bits)))
         (λ n. ap fits kept_as-fresh ∙ fits_fresh) fits-back
 
@@ -147,10 +147,10 @@ module _ (way : Way) (e : Scheme) (t : Table) (settings : Settings) where
 
 -- final answers are kept
 abbrev KeepsFinal : Stop → PieceCall → Type 0
-KeepsFinal w c = c.end ≡ Ended (Stopped w) → c.kept.standing ≡ stands.Stopped w
+KeepsFinal w c = c.end ≡ Ended (Stopped w) → c.kept.standing ≡ Some w
 
 last-final : (w : Stop) (cs : List PieceCall) → All (KeepsFinal w) cs → (h : PieceEnd) (k : Kept)
-    → (h ≡ Ended (Stopped w) → k.standing ≡ stands.Stopped w) → last_end h cs ≡ Ended (Stopped w) → (last_kept k cs).standing ≡ stands.Stopped w
+    → (h ≡ Ended (Stopped w) → k.standing ≡ Some w) → last_end h cs ≡ Ended (Stopped w) → (last_kept k cs).standing ≡ Some w
 last-final w [] a h k z e = z e
 last-final w (c ∷ cs) a h k z e = last-final w cs a.1 c.end c.kept a.0 e
 
@@ -164,12 +164,12 @@ closes-final w (d ∷ ds) = (close-final d w, closes-final w ds)
 
 module _ (l : LoadCall) (t : Table) (a : AcceptedAs l t) (way : Way) (e : Scheme) (settings : Settings) where
   abbrev held : Table
-  held = table_in l.result.table (left_after l)
+  held = table_in (record_handed l.result) (left_after l)
 
   abbrev Fits : Kept → Type 0
   Fits k = kept_fits way e (steps_of held) settings k ≡ true
 
-  valid-left : valid limits l.result.table (left_after l) ≡ true
+  valid-left : valid limits (record_handed l.result) (left_after l) ≡ true
   valid-left = leaves-valid l a.accepted
 
   -- closes, one after the other
@@ -178,7 +178,7 @@ module _ (l : LoadCall) (t : Table) (a : AcceptedAs l t) (way : Way) (e : Scheme
   closes-fit [] k f i h = f
   closes-fit (d ∷ ds) k f i h =
       let came : Fits d.came = subst Fits (sym i.0) f in
-      let is = h.0 ∙ guarded-on way e l.result.table (left_after l) settings d.came (close_in way e (carry_in d.came) d.room) valid-left came in
+      let is = h.0 ∙ guarded-on way e (record_handed l.result) (left_after l) settings d.came (close_in way e (carry_in d.came) d.room) valid-left came in
       closes-fit ds d.kept
       (subst Fits (sym (ap (λ (x : PieceAnswer). x.kept) is)) (fits-close way e held settings d.came came d.room)) i.2 h.1
 
@@ -188,7 +188,7 @@ module _ (l : LoadCall) (t : Table) (a : AcceptedAs l t) (way : Way) (e : Scheme
     last = last_kept fresh_kept (map piece_call_of cs)
 
     abbrev answer : PieceAnswer
-    answer = piece_tested way e limits l.result.table (left_after l) settings last [] 0
+    answer = piece_tested way e limits (record_handed l.result) (left_after l) settings last [] 0
 
     -- one more call, with no piece and no space
     abbrev more : PieceCall
@@ -198,7 +198,7 @@ module _ (l : LoadCall) (t : Table) (a : AcceptedAs l t) (way : Way) (e : Scheme
     unrefused =
         let f = leaves-form l t a in
         All-one Unrefused (map piece_call_of cs) more
-        (in-pieces t f.0 f.1 l.result.table (left_after l) f.2 way e settings frame bytes room enough (map piece_call_of cs ++ more ∷ []) []
+        (in-pieces t f.0 f.1 (record_handed l.result) (left_after l) f.2 way e settings frame bytes room enough (map piece_call_of cs ++ more ∷ []) []
         (InTurn-one frame fresh_kept (map piece_call_of cs) more refl refl turn) tt
         (All-++⁺ _ (map piece_call_of cs) (more ∷ []) (pieces-answered l way e settings cs on) (refl, tt)) tt).unrefused
 
@@ -211,7 +211,7 @@ module _ (l : LoadCall) (t : Table) (a : AcceptedAs l t) (way : Way) (e : Scheme
         by-fit false q =
             let u = unrefused in
             let is = ap (λ (x : PieceAnswer). x.end)
-            (guarded-42 way e l.result.table (left_after l) settings last (piece_in way e held settings (carry_in last) [] 0) valid-left q) in
+            (guarded-42 way e (record_handed l.result) (left_after l) settings last (piece_in way e held settings (carry_in last) [] 0) valid-left q) in
             let z : Ended u.0 ≡ BadKept = sym u.1 ∙ is in
             absurd (let y : ◌≡◌ {A = ℕ} 0 1 = cc in omega arith)
 
@@ -238,7 +238,7 @@ stands_on l t a way e settings frame bytes room enough cs ds on closed turn clos
     let kept = last_kept (last_kept fresh_kept (map piece_call_of cs)) (map close_call_of ds) in
     let f = closes-fit l t a way e settings (map close_call_of ds) _ (pieces-fit l t a way e settings frame bytes room enough cs on turn) closing
     (closes-answered l way e settings ds closed) in
-    let stood : kept.standing ≡ stands.Stopped w = last-final w (map close_call_of ds) (closes-final w ds) _ _
+    let stood : kept.standing ≡ Some w = last-final w (map close_call_of ds) (closes-final w ds) _ _
     (last-final w (map piece_call_of cs) (pieces-final w cs) (Ended AllRead) fresh_kept (λ z. absurd (let y : ◌≡◌ {A = ℕ} 0 1 = cc in omega arith))) h in (
       λ c o i. piece-stands c w (ap (λ (k : Kept). k.standing) i ∙ stood) (valid-on l t a way e settings (piece_parts c) o kept f i)
           (fits_on l t a way e settings (piece_parts c) o kept f i),

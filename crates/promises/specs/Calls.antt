@@ -4,13 +4,15 @@
 use Rattle.std.specs.Prelude.{ℕ, ◌≤◌, ◌≡◌, Bool, List, [], length, take}
 use borrow.Fn.Kinds.{Out}
 use Rattle.utf.specs.declared.scheme.Scheme.{Scheme}
+use Rattle.std.proofs.Math.Option.{none}
 use Rattle.table.specs.Limits.{limits}
 use Rattle.table.specs.Meaning.{Table}
 use Rattle.table.specs.Grammar.{TableText}
 use Rattle.table.specs.Slices.{Slices, slices, Lent}
-use Rattle.table.specs.declared.load.Answer.TheVariants.{Accepted}
+use Rattle.table.specs.Held.{memory_of}
 use Rattle.table.specs.declared.states.Code.{Code}
 use Rattle.table.specs.declared.valid.Record.{Record}
+use Rattle.table.specs.Load.{refusal_in}
 use Rattle.convert.specs.declared.Settings.{Settings}
 use Rattle.convert.specs.declared.pieces.Way.{Way}
 use Rattle.convert.specs.declared.pieces.Kept.{Kept}
@@ -58,33 +60,32 @@ pub record MayLoad (c : LoadCall) : Type 0 where
 
 -- it was accepted, and its text writes the table t
 pub record AcceptedAs (c : LoadCall) (t : Table) : Type 0 where
-  pub accepted : c.result.answer ≡ Accepted
+  pub accepted : refusal_in c.result ≡ none
   pub of-grammar : TableText (text_of c) t
 
 -- ## `memory_valid`: the test behind 60
 
 abbrev pub ValidCall : Type 1
-ValidCall = Called 4 of-memory-valid.ps of-memory-valid.r memory-valid.Post
+ValidCall = Called 1 of-memory-valid.ps of-memory-valid.r memory-valid.Post
 
 abbrev pub record_tested : ValidCall → Record
-record_tested c = c.args.0
+record_tested c = c.args.0.rec
 
 abbrev pub slices_tested : ValidCall → Slices
-slices_tested c =
-    slices c.args.1.0.now c.args.1.1.0.now c.args.1.1.1.0.now c.args.1.1.1.1.0.now
+slices_tested c = memory_of c.args.0
 
 -- ## `find_code`, `find_point`: look-up
 
 abbrev pub CodeCall : Type 1
-CodeCall = Called 2 of-find-code.ps of-find-code.r find-code.Post
+CodeCall = Called 1 of-find-code.ps of-find-code.r find-code.Post
 
 abbrev pub PointCall : Type 1
-PointCall = Called 3 of-find-point.ps of-find-point.r find-point.Post
+PointCall = Called 1 of-find-point.ps of-find-point.r find-point.Post
 
 -- ## `to_unicode`, `from_unicode`: the two conversions, of one signature
 
-abbrev pub ConversionCall : Out 6 of-to-unicode.ps of-to-unicode.r → Type 1
-ConversionCall Post = Called 6 of-to-unicode.ps of-to-unicode.r Post
+abbrev pub ConversionCall : Out 3 of-to-unicode.ps of-to-unicode.r → Type 1
+ConversionCall Post = Called 3 of-to-unicode.ps of-to-unicode.r Post
 
 abbrev pub ToCall : Type 1
 ToCall = ConversionCall to-unicode.Post
@@ -92,29 +93,28 @@ ToCall = ConversionCall to-unicode.Post
 abbrev pub FromCall : Type 1
 FromCall = ConversionCall from-unicode.Post
 
-module _ {Post : Out 6 of-to-unicode.ps of-to-unicode.r} where
+module _ {Post : Out 3 of-to-unicode.ps of-to-unicode.r} where
   abbrev pub record_given : ConversionCall Post → Record
-  record_given c = c.args.0
+  record_given c = c.args.0.rec
 
   abbrev pub slices_given : ConversionCall Post → Slices
-  slices_given c =
-      slices c.args.1.0.now c.args.1.1.0.now c.args.1.1.1.0.now c.args.1.1.1.1.0.now
+  slices_given c = memory_of c.args.0
 
   abbrev pub input_of : ConversionCall Post → List ℕ
-  input_of c = c.args.1.1.1.1.1.0.now
+  input_of c = c.args.1.0.now
 
   -- the output slice when it is called, and when it returns
   abbrev pub output_lent : ConversionCall Post → List ℕ
-  output_lent c = c.args.1.1.1.1.1.1.0.now
+  output_lent c = c.args.1.1.0.now
 
   abbrev pub output_after : ConversionCall Post → List ℕ
-  output_after c = c.exit.1.1.1.1.1.1.0.now
+  output_after c = c.exit.1.1.0.now
 
   abbrev pub settings_of : ConversionCall Post → Settings
-  settings_of c = c.args.1.1.1.1.1.1.1.0
+  settings_of c = c.args.1.1.1.0
 
   abbrev pub scheme_of : ConversionCall Post → Scheme
-  scheme_of c = c.args.1.1.1.1.1.1.1.1.0
+  scheme_of c = c.args.1.1.1.1.0
 
   -- the bytes that it wrote
   abbrev pub written_by : ConversionCall Post → List ℕ
@@ -123,10 +123,10 @@ module _ {Post : Out 6 of-to-unicode.ps of-to-unicode.r} where
 -- ## `convert_piece`, `close`: a conversion in pieces
 
 abbrev pub PieceFunctionCall : Type 1
-PieceFunctionCall = Called 6 of-convert-piece.ps of-convert-piece.r convert-piece.Post
+PieceFunctionCall = Called 3 of-convert-piece.ps of-convert-piece.r convert-piece.Post
 
 abbrev pub CloseFunctionCall : Type 1
-CloseFunctionCall = Called 5 of-close.ps of-close.r close.Post
+CloseFunctionCall = Called 2 of-close.ps of-close.r close.Post
 
 -- the parts of either: what it got, and the output slice when it was called; what it handed back, and the output slice
 -- when it returned. A close has no piece
@@ -146,60 +146,55 @@ abbrev pub piece_parts : PieceFunctionCall → PieceParts
 piece_parts c =
     record {
       way = c.args.0;
-      table = c.args.1.0;
-      memory =
-          slices c.args.1.1.0.now c.args.1.1.1.0.now c.args.1.1.1.1.0.now
-          c.args.1.1.1.1.1.0.now;
-      came = c.args.1.1.1.1.1.1.0;
-      piece = c.args.1.1.1.1.1.1.1.0.now;
-      lent = c.args.1.1.1.1.1.1.1.1.0.now;
-      settings = c.args.1.1.1.1.1.1.1.1.1.0;
-      scheme = c.args.1.1.1.1.1.1.1.1.1.1.0;
+      table = c.args.1.0.rec;
+      memory = memory_of c.args.1.0;
+      came = c.args.1.1.0;
+      piece = c.args.1.1.1.0.now;
+      lent = c.args.1.1.1.1.0.now;
+      settings = c.args.1.1.1.1.1.0;
+      scheme = c.args.1.1.1.1.1.1.0;
       result = c.result;
-      after = c.exit.1.1.1.1.1.1.1.1.0.now;
+      after = c.exit.1.1.1.1.0.now;
     }
 
 abbrev pub close_parts : CloseFunctionCall → PieceParts
 close_parts c =
     record {
       way = c.args.0;
-      table = c.args.1.0;
-      memory =
-          slices c.args.1.1.0.now c.args.1.1.1.0.now c.args.1.1.1.1.0.now
-          c.args.1.1.1.1.1.0.now;
-      came = c.args.1.1.1.1.1.1.0;
+      table = c.args.1.0.rec;
+      memory = memory_of c.args.1.0;
+      came = c.args.1.1.0;
       piece = [];
-      lent = c.args.1.1.1.1.1.1.1.0.now;
-      settings = c.args.1.1.1.1.1.1.1.1.0;
-      scheme = c.args.1.1.1.1.1.1.1.1.1.0;
+      lent = c.args.1.1.1.0.now;
+      settings = c.args.1.1.1.1.0;
+      scheme = c.args.1.1.1.1.1.0;
       result = c.result;
-      after = c.exit.1.1.1.1.1.1.1.0.now;
+      after = c.exit.1.1.1.0.now;
     }
 
 -- ## `audit`: codes that do not round-trip
 
 abbrev pub AuditFunctionCall : Type 1
-AuditFunctionCall = Called 5 of-audit.ps of-audit.r audit.Post
+AuditFunctionCall = Called 2 of-audit.ps of-audit.r audit.Post
 
 abbrev pub record_audited : AuditFunctionCall → Record
-record_audited c = c.args.0
+record_audited c = c.args.0.rec
 
 abbrev pub slices_audited : AuditFunctionCall → Slices
-slices_audited c =
-    slices c.args.1.0.now c.args.1.1.0.now c.args.1.1.1.0.now c.args.1.1.1.1.0.now
+slices_audited c = memory_of c.args.0
 
 abbrev pub fallback_of : AuditFunctionCall → Bool
-fallback_of c = c.args.1.1.1.1.1.0
+fallback_of c = c.args.1.0
 
 abbrev pub position_of : AuditFunctionCall → Code
-position_of c = c.args.1.1.1.1.1.1.0
+position_of c = c.args.1.1.0
 
 abbrev pub allowance_of : AuditFunctionCall → ℕ
-allowance_of c = c.args.1.1.1.1.1.1.1.0
+allowance_of c = c.args.1.1.1.0
 
 -- the space for entries when it is called, and when it returns
 abbrev pub space_lent : AuditFunctionCall → List ℕ
-space_lent c = c.args.1.1.1.1.1.1.1.1.0.now
+space_lent c = c.args.1.1.1.1.0.now
 
 abbrev pub space_afterwards : AuditFunctionCall → List ℕ
-space_afterwards c = c.exit.1.1.1.1.1.1.1.1.0.now
+space_afterwards c = c.exit.1.1.1.1.0.now

@@ -82,18 +82,18 @@ use Rattle.cabi.proofs.oboepond_audit.Statement as oboepond-audit-meets
 -- no caller has to check anything beforehand: what a function asks of its arguments holds of any
 pub record AskNothing : Type 1 where
   pub load_asks : (κs : Lfts 5) (args : Dens κs of-load.ps) → load.Pre κs args
-  pub memory-valid-asks : (κs : Lfts 4) (args : Dens κs of-memory-valid.ps) → memory-valid.Pre κs args
-  pub find-code-asks : (κs : Lfts 2) (args : Dens κs of-find-code.ps) → find-code.Pre κs args
-  pub find-point-asks : (κs : Lfts 3) (args : Dens κs of-find-point.ps) → find-point.Pre κs args
-  pub to-unicode-asks : (κs : Lfts 6) (args : Dens κs of-to-unicode.ps) → to-unicode.Pre κs args
-  pub from-unicode-asks : (κs : Lfts 6) (args : Dens κs of-from-unicode.ps) → from-unicode.Pre κs args
-  pub convert-piece-asks : (κs : Lfts 6) (args : Dens κs of-convert-piece.ps) → convert-piece.Pre κs args
-  pub close-asks : (κs : Lfts 5) (args : Dens κs of-close.ps) → close.Pre κs args
-  pub audit-asks : (κs : Lfts 5) (args : Dens κs of-audit.ps) → audit.Pre κs args
+  pub memory-valid-asks : (κs : Lfts 1) (args : Dens κs of-memory-valid.ps) → memory-valid.Pre κs args
+  pub find-code-asks : (κs : Lfts 1) (args : Dens κs of-find-code.ps) → find-code.Pre κs args
+  pub find-point-asks : (κs : Lfts 1) (args : Dens κs of-find-point.ps) → find-point.Pre κs args
+  pub to-unicode-asks : (κs : Lfts 3) (args : Dens κs of-to-unicode.ps) → to-unicode.Pre κs args
+  pub from-unicode-asks : (κs : Lfts 3) (args : Dens κs of-from-unicode.ps) → from-unicode.Pre κs args
+  pub convert-piece-asks : (κs : Lfts 3) (args : Dens κs of-convert-piece.ps) → convert-piece.Pre κs args
+  pub close-asks : (κs : Lfts 2) (args : Dens κs of-close.ps) → close.Pre κs args
+  pub audit-asks : (κs : Lfts 2) (args : Dens κs of-audit.ps) → audit.Pre κs args
   pub report-table-asks : (κs : Lfts 1) (args : Dens κs of-report-table.ps) → report-table.Pre κs args
-  pub report-frames-asks : (κs : Lfts 7) (args : Dens κs of-report-frames.ps) → report-frames.Pre κs args
-  pub report-last-asks : (κs : Lfts 6) (args : Dens κs of-report-last.ps) → report-last.Pre κs args
-  pub list-codes-asks : (κs : Lfts 5) (args : Dens κs of-list-codes.ps) → list-codes.Pre κs args
+  pub report-frames-asks : (κs : Lfts 4) (args : Dens κs of-report-frames.ps) → report-frames.Pre κs args
+  pub report-last-asks : (κs : Lfts 3) (args : Dens κs of-report-last.ps) → report-last.Pre κs args
+  pub list-codes-asks : (κs : Lfts 2) (args : Dens κs of-list-codes.ps) → list-codes.Pre κs args
   pub report-closing-asks : (κs : Lfts 1) (args : Dens κs of-report-closing.ps) → report-closing.Pre κs args
   pub oboepond-load-asks : (κs : Lfts 7) (args : Dens κs of-oboepond-load.ps) → oboepond-load.Pre κs args
   pub oboepond-check-asks : (κs : Lfts 5) (args : Dens κs of-oboepond-check.ps) → oboepond-check.Pre κs args

@@ -1,15 +1,16 @@
 -- The program's calls: `load`, `report_table`; of an accepted text `report_frames` on one piece of input after the
 -- other, `report_last`, `list_codes` page by page and `report_closing`. Each is a call of which the function's own
 -- contract holds (Called.antt).
-use Rattle.std.specs.Prelude.{ℕ, ◌≤◌, ◌≡◌, Bool, true, false, length, take}
+use Rattle.std.specs.Prelude.{ℕ, ◌≤◌, ◌≡◌, Bool, true, false, length, take, Option, Some}
 use mathlib.Core.List.{List, [], ◌∷◌, ◌++◌, map, flatten}
-use Rattle.table.specs.Slices.{Slices, slices}
+use Rattle.std.proofs.Math.Option.{none, some}
+use Rattle.table.specs.Numbers.{Loaded}
+use Rattle.table.specs.Slices.{Slices}
+use Rattle.table.specs.Held.{memory_of}
 use Rattle.table.specs.declared.valid.Record.{Record}
-use Rattle.table.specs.declared.load.Answer.TheVariants.{Accepted, Refused}
-use Rattle.table.specs.declared.load.Loaded.{Loaded}
 use Rattle.table.specs.declared.load.Refusal.{Refusal}
+use Rattle.table.specs.Load.{record_handed, refusal_in}
 use Rattle.frames.specs.Pages.{nothing_yet}
-use Rattle.frames.specs.declared.lines.Partial.{Partial}
 use Rattle.frames.specs.declared.pages.ListedSoFar.{ListedSoFar}
 use Rattle.frames.proofs.report.report_table.Reads as report-table
 use Rattle.frames.proofs.report.report_table.Kinds as of-report-table
@@ -42,37 +43,36 @@ table_put c = take c.result c.exit.1.0.now
 -- ## A call of `report_frames`
 
 abbrev pub FramesCall : Type 1
-FramesCall = Called 7 of-report-frames.ps of-report-frames.r report-frames.Post
+FramesCall = Called 4 of-report-frames.ps of-report-frames.r report-frames.Post
 
 abbrev pub frames_record : FramesCall → Record
-frames_record c = c.args.0
+frames_record c = c.args.0.rec
 
 abbrev pub frames_slices : FramesCall → Slices
-frames_slices c =
-    slices c.args.1.0.now c.args.1.1.0.now c.args.1.1.1.0.now c.args.1.1.1.1.0.now
+frames_slices c = memory_of c.args.0
 
 -- the piece of input, and from where on it is read
 abbrev pub piece_given : FramesCall → List ℕ
-piece_given c = c.args.1.1.1.1.1.0.now
+piece_given c = c.args.1.0.now
 
 abbrev pub from_of : FramesCall → ℕ
-from_of c = c.args.1.1.1.1.1.1.0
+from_of c = c.args.1.1.0
 
 -- the memory for a line, and how much of a line it holds, when it is called; the memory when it returns
 abbrev pub line_of : FramesCall → List ℕ
-line_of c = c.args.1.1.1.1.1.1.1.0.now
+line_of c = c.args.1.1.1.0.now
 
-abbrev pub partial_given : FramesCall → Partial
-partial_given c = c.args.1.1.1.1.1.1.1.1.0
+abbrev pub partial_given : FramesCall → Option ℕ
+partial_given c = c.args.1.1.1.1.0
 
 abbrev pub line_after : FramesCall → List ℕ
-line_after c = c.exit.1.1.1.1.1.1.1.0.now
+line_after c = c.exit.1.1.1.0.now
 
 abbrev pub frames_out : FramesCall → List ℕ
-frames_out c = c.args.1.1.1.1.1.1.1.1.1.0.now
+frames_out c = c.args.1.1.1.1.1.0.now
 
 abbrev pub frames_out_after : FramesCall → List ℕ
-frames_out_after c = c.exit.1.1.1.1.1.1.1.1.1.0.now
+frames_out_after c = c.exit.1.1.1.1.1.0.now
 
 -- what it put
 abbrev pub put_by : FramesCall → List ℕ
@@ -81,7 +81,7 @@ put_by c = take c.result.put (frames_out_after c)
 -- calls on a piece, one after the other: each has the same record and memory and gets what the one before handed
 -- back, until the piece is read through; `next` is what is asked of the memory for a line and of what it holds at the
 -- end
-abbrev pub OnPiece : Record → Slices → List ℕ → (List ℕ → Partial → Type 0) → ℕ → List ℕ → Partial → List FramesCall
+abbrev pub OnPiece : Record → Slices → List ℕ → (List ℕ → Option ℕ → Type 0) → ℕ → List ℕ → Option ℕ → List FramesCall
     → Type 0
 OnPiece rec m bytes next from line held [] = (length bytes ≤ from) × next line held
 OnPiece rec m bytes next from line held (c ∷ cs) =
@@ -95,7 +95,7 @@ pub record PieceCalls : Type 1 where
   pub calls : List FramesCall
 
 -- one piece after the other
-abbrev pub OnPieces : Record → Slices → (List ℕ → Partial → Type 0) → List ℕ → Partial → List PieceCalls → Type 0
+abbrev pub OnPieces : Record → Slices → (List ℕ → Option ℕ → Type 0) → List ℕ → Option ℕ → List PieceCalls → Type 0
 OnPieces rec m next line held [] = next line held
 OnPieces rec m next line held (p ∷ ps) =
     OnPiece rec m p.bytes (λ line' held'. OnPieces rec m next line' held' ps) 0 line held p.calls
@@ -112,26 +112,25 @@ frames_put (p ∷ ps) = put_by_all p.calls ++ frames_put ps
 -- ## A call of `report_last`
 
 abbrev pub LastCall : Type 1
-LastCall = Called 6 of-report-last.ps of-report-last.r report-last.Post
+LastCall = Called 3 of-report-last.ps of-report-last.r report-last.Post
 
 abbrev pub last_record : LastCall → Record
-last_record c = c.args.0
+last_record c = c.args.0.rec
 
 abbrev pub last_slices : LastCall → Slices
-last_slices c =
-    slices c.args.1.0.now c.args.1.1.0.now c.args.1.1.1.0.now c.args.1.1.1.1.0.now
+last_slices c = memory_of c.args.0
 
 abbrev pub last_line_of : LastCall → List ℕ
-last_line_of c = c.args.1.1.1.1.1.0.now
+last_line_of c = c.args.1.0.now
 
-abbrev pub last_partial : LastCall → Partial
-last_partial c = c.args.1.1.1.1.1.1.0
+abbrev pub last_partial : LastCall → Option ℕ
+last_partial c = c.args.1.1.0
 
 abbrev pub last_out : LastCall → List ℕ
-last_out c = c.args.1.1.1.1.1.1.1.0.now
+last_out c = c.args.1.1.1.0.now
 
 abbrev pub last_out_after : LastCall → List ℕ
-last_out_after c = c.exit.1.1.1.1.1.1.1.0.now
+last_out_after c = c.exit.1.1.1.0.now
 
 -- what it put
 abbrev pub last_put : LastCall → List ℕ
@@ -142,7 +141,7 @@ abbrev pub widest : ℕ
 widest = 32777
 
 -- it has space for the widest line, and gets the memory for a line and what it holds as they are at the input's end
-abbrev pub AtEnd : Record → Slices → LastCall → List ℕ → Partial → Type 0
+abbrev pub AtEnd : Record → Slices → LastCall → List ℕ → Option ℕ → Type 0
 AtEnd rec m c line held =
     (last_record c ≡ rec) × (last_slices c ≡ m) × (last_line_of c ≡ line) × (last_partial c ≡ held)
     × (widest ≤ length (last_out c))
@@ -150,24 +149,23 @@ AtEnd rec m c line held =
 -- ## A call of `list_codes`
 
 abbrev pub PageCall : Type 1
-PageCall = Called 5 of-list-codes.ps of-list-codes.r list-codes.Post
+PageCall = Called 2 of-list-codes.ps of-list-codes.r list-codes.Post
 
 abbrev pub page_record : PageCall → Record
-page_record c = c.args.0
+page_record c = c.args.0.rec
 
 abbrev pub page_slices : PageCall → Slices
-page_slices c =
-    slices c.args.1.0.now c.args.1.1.0.now c.args.1.1.1.0.now c.args.1.1.1.1.0.now
+page_slices c = memory_of c.args.0
 
 -- how far the list had come
 abbrev pub listing_of : PageCall → ListedSoFar
-listing_of c = c.args.1.1.1.1.1.0
+listing_of c = c.args.1.0
 
 abbrev pub page_out : PageCall → List ℕ
-page_out c = c.args.1.1.1.1.1.1.0.now
+page_out c = c.args.1.1.0.now
 
 abbrev pub page_out_after : PageCall → List ℕ
-page_out_after c = c.exit.1.1.1.1.1.1.0.now
+page_out_after c = c.exit.1.1.0.now
 
 -- what it put
 abbrev pub page_put : PageCall → List ℕ
@@ -222,15 +220,15 @@ pub record Rest (b : Begun) : Type 1 where
   pub closing : ClosingCall
   pub frames : let l = b.load.result in
       let m = left_after b.load in
-      OnPieces l.table m (AtEnd l.table m last) line (record { len = 0; long = false }) pieces
-  pub list : OnPages b.load.result.table (left_after b.load) (λ done. closing_listing closing ≡ done)
+      OnPieces (record_handed l) m (AtEnd (record_handed l) m last) line (Some 0) pieces
+  pub list : OnPages (record_handed b.load.result) (left_after b.load) (λ done. closing_listing closing ≡ done)
       nothing_yet.reached true pages
   pub room : widest ≤ length (closing_out closing)
 
 -- a run stops behind the line of a refused table, and goes on behind that of an accepted one
 pub data Course (b : Begun) : Type 1 where
-  stops : (why : Refusal) → b.load.result.answer ≡ Refused why → Course b
-  goes : b.load.result.answer ≡ Accepted → Rest b → Course b
+  stops : (why : Refusal) → refusal_in b.load.result ≡ some why → Course b
+  goes : refusal_in b.load.result ≡ none → Rest b → Course b
 
 -- all that it puts
 abbrev pub written : (b : Begun) → Course b → List ℕ

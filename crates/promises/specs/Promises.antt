@@ -1,9 +1,11 @@
 -- EVERYTHING THAT IS PROMISED, as one record over calls of the public functions: the three demands, clause by clause,
 -- the starred cases, and the program. It is proved whole as `promises` in proofs/Promises.antt; docs/PROMISES.md goes
 -- through its fields.
+use Rattle.std.specs.Prelude.{Some, None}
 use Rattle.std.specs.Prelude.{ℕ, ◌+◌, ◌-◌, ◌*◌, ◌<◌, ◌≤◌, ◌≡◌, ◌↔◌, Bool, true}
 use Rattle.std.specs.Prelude.{false, List, [], ◌++◌, map, length, drop}
 use Rattle.std.proofs.Math.Option.{none, some}
+use Rattle.std.specs.Prelude.{Some}
 use Rattle.lists.specs.Ascii.{ascii}
 use Rattle.lists.specs.Order.{All, In}
 use Rattle.utf.specs.Utf8.{Scalar, decode_one, encode_of}
@@ -29,9 +31,9 @@ use Rattle.table.specs.Forms.{FormOf, SameTable, SameMemory}
 use Rattle.table.specs.Valid.{valid}
 use Rattle.table.specs.Numbers.{cond, refusal_number, answer_number}
 use Rattle.table.specs.Load.{Reading, zero_record, loaded_by, given, given_number, left_in}
+use Rattle.table.specs.Load.{refusal_in, line_refused, record_handed}
 use Rattle.table.specs.FirstLine.{conditions_at}
 use Rattle.table.specs.TableK.{k_text}
-use Rattle.table.specs.declared.load.Answer.TheVariants.{Accepted, Refused}
 use Rattle.table.specs.declared.load.Refusal.{Refusal}
 use Rattle.table.specs.declared.load.Refusal.TheVariants as refusal
 use Rattle.convert.specs.Run.{give, stop, after, ended_with, end_number, end_length}
@@ -45,12 +47,10 @@ use Rattle.convert.specs.PieceClaims.{InTurn as PiecesInTurn}
 use Rattle.convert.specs.declared.RunEnd.TheVariants.{AllRead, OutputFull, BadTable, Stopped}
 use Rattle.convert.specs.declared.Settings.{Settings}
 use Rattle.convert.specs.declared.pieces.Way.{Way}
-use Rattle.convert.specs.declared.pieces.Standing.TheVariants as stands
 use Rattle.convert.specs.declared.pieces.PieceEnd.TheVariants.{Ended, BadKept}
-use Rattle.audit.specs.Audit.{cause_of, complete_codes, entry_number, audit_tested, refused}
+use Rattle.audit.specs.Audit.{cause_of, complete_codes, entry_number, audit_tested, refused, Looked, ending_of}
 use Rattle.audit.specs.Demand.{InTurn, Claims}
 use Rattle.audit.specs.Cases.{Starred}
-use Rattle.audit.specs.declared.Ending.TheVariants as ending
 use Rattle.frames.specs.Output.{output_of, program_output}
 use Rattle.promises.specs.Functions.{AskNothing, MeetTheirs}
 use Rattle.promises.specs.Calls.{LoadCall, text_of, lent_to, left_after, MayLoad, AcceptedAs, ValidCall}
@@ -66,6 +66,7 @@ use Rattle.promises.specs.Words.{call_of, FindsCode, FindsPoint}
 use Rattle.promises.specs.Words.{AnswersPiece, DidNothing, memory_valid, kept_fitting, piece_call_of, close_call_of}
 use Rattle.promises.specs.Words.{PieceOn}
 use Rattle.promises.specs.Program.{Begun, Course, written, Reads}
+use Rattle.table.specs.declared.states.EndKind.TheVariants.{Unassigned}
 
 -- DEMAND 1: any table text, any table memory, any bytes get an answer; what is handed back and left in lent memory is
 -- fixed
@@ -76,17 +77,18 @@ pub record Demand1 : Type 2 where
   -- `load`: answer, number and the four slices, whatever the text and the slices
   pub load-answers : (c : LoadCall)
       → let g = given limits (text_of c) (lent_to c) in
-      (c.result ≡ loaded_by g) × (answer_number c.result.answer ≡ given_number g)
+      (c.result ≡ loaded_by g) × (answer_number c.result ≡ given_number g)
       × (left_after c ≡ left_in limits g (lent_to c))
   -- a refusal is given exactly for its reason: 1, then 2, both with line 0; else the first line at which a condition
   -- holds, with the lowest number that holds there; 27 with the count of lines plus 1
   pub load-refuses : (c : LoadCall) (x : Refusal) (k : ℕ)
-      → ((c.result.answer ≡ Refused x) × (c.result.line ≡ k)) ↔ RefusedFor c x k
+      → ((refusal_in c.result ≡ some x) × (line_refused c.result ≡ k)) ↔ RefusedFor c x k
   -- and hands back a record of zeros; 1 and 2 leave the memory as it was, the others zero what is needed of it
-  pub refused-record : (c : LoadCall) (x : Refusal) → c.result.answer ≡ Refused x → c.result.table ≡ zero_record
-  pub refused-early : (c : LoadCall) (x : Refusal) → c.result.answer ≡ Refused x → refusal_number x ≤ 2
+  pub refused-record : (c : LoadCall) (x : Refusal) → refusal_in c.result ≡ some x
+      → record_handed c.result ≡ zero_record
+  pub refused-early : (c : LoadCall) (x : Refusal) → refusal_in c.result ≡ some x → refusal_number x ≤ 2
       → left_after c ≡ lent_to c
-  pub refused-later : (c : LoadCall) (x : Refusal) → c.result.answer ≡ Refused x → 2 < refusal_number x
+  pub refused-later : (c : LoadCall) (x : Refusal) → refusal_in c.result ≡ some x → 2 < refusal_number x
       → AllZeroed (lent_to c) (left_after c)
   -- numbers past the needed ones are never touched
   pub beyond-untouched : (c : LoadCall) → SameBeyond (lent_to c) (left_after c)
@@ -138,8 +140,8 @@ pub record Demand1 : Type 2 where
       let a = audit_tested limits (record_audited c) (slices_audited c)
       (fallback_of c) (position_of c) (allowance_of c) space in
       AuditsBy a c
-  pub audit-refuses : (c : AuditFunctionCall) → (c.result.ending ≡ ending.Looked → ⊥)
-      → AuditsBy (refused c.result.ending (position_of c)) c × (space_afterwards c ≡ space_lent c)
+  pub audit-refuses : (c : AuditFunctionCall) → (ending_of c.result ≡ Looked → ⊥)
+      → AuditsBy (refused (ending_of c.result) (position_of c)) c × (space_afterwards c ≡ space_lent c)
   -- `find_code`, `find_point`: on any memory nothing, or a stored line; on memory that is valid the table's own line
   pub code-found : (c : CodeCall) → FindsCode c
   pub point-found : (c : PointCall) → FindsPoint c
@@ -149,20 +151,21 @@ pub record Demand1 : Type 2 where
 pub record Demand2 : Type 1 where
   -- a text that may be loaded is accepted exactly when it is of the grammar and its rows and lines keep T1 to T10
   pub accepted-exactly : (c : LoadCall) → MayLoad c
-      → (c.result.answer ≡ Accepted) ↔ ((t : Table) × TableText (text_of c) t × Keeps limits t)
+      → (refusal_in c.result ≡ none) ↔ ((t : Table) × TableText (text_of c) t × Keeps limits t)
   -- an accepted text is of the grammar, and it writes one table
-  pub accepted-means : (c : LoadCall) → c.result.answer ≡ Accepted → (t : Table) × AcceptedAs c t
+  pub accepted-means : (c : LoadCall) → refusal_in c.result ≡ none → (t : Table) × AcceptedAs c t
   pub one_table : (text : List ℕ) (t u : Table) → TableText text t → TableText text u → t ≡ u
   -- an accepted text leaves the form of its table; its table has rows of 256 cells and lines of bytes, and keeps the
   -- rules
   pub leaves-form : (c : LoadCall) (t : Table) → AcceptedAs c t
-      → Proper t × Keeps limits t × Form limits t c.result.table (left_after c)
-  pub leaves-valid : (c : LoadCall) → c.result.answer ≡ Accepted
-      → valid limits c.result.table (left_after c) ≡ true
+      → Proper t × Keeps limits t × Form limits t (record_handed c.result) (left_after c)
+  pub leaves-valid : (c : LoadCall) → refusal_in c.result ≡ none
+      → valid limits (record_handed c.result) (left_after c) ≡ true
   -- one form for one meaning: two accepted texts leave the same record and the same needed numbers exactly when their
   -- tables are the same
   pub one_form : (c d : LoadCall) (t u : Table) → AcceptedAs c t → AcceptedAs d u
-      → SameTable t u ↔ SameMemory limits c.result.table d.result.table (left_after c) (left_after d)
+      → SameTable t u
+      ↔ SameMemory limits (record_handed c.result) (record_handed d.result) (left_after c) (left_after d)
   -- the test behind 60 holds exactly where some table that keeps the rules has this record and memory as its form
   pub valid-exactly : (c : ValidCall) → Words (record_tested c) (slices_tested c)
       → (c.result ≡ true) ↔ FormOf limits (record_tested c) (slices_tested c)
@@ -288,17 +291,17 @@ pub record InBursts : Type 1 where
       → InPieces way e whole frame (map piece_call_of cs) (map close_call_of ds)
   -- a call answered 51, 52 or 53 keeps that answer
   pub piece-final : (c : PieceFunctionCall) (w : Stop) → c.result.end ≡ Ended (Stopped w)
-      → c.result.kept.standing ≡ stands.Stopped w
+      → c.result.kept.standing ≡ Some w
   pub close-final : (c : CloseFunctionCall) (w : Stop) → c.result.end ≡ Ended (Stopped w)
-      → c.result.kept.standing ≡ stands.Stopped w
+      → c.result.kept.standing ≡ Some w
   -- and an answer that is kept is given again, nothing being read, written or changed
   pub piece-stands : (c : PieceFunctionCall) (w : Stop)
       → let p = piece_parts c in
-      p.came.standing ≡ stands.Stopped w → memory_valid p ≡ true → kept_fitting p ≡ true
+      p.came.standing ≡ Some w → memory_valid p ≡ true → kept_fitting p ≡ true
       → DidNothing (Ended (Stopped w)) p
   pub close-stands : (c : CloseFunctionCall) (w : Stop)
       → let p = close_parts c in
-      p.came.standing ≡ stands.Stopped w → memory_valid p ≡ true → kept_fitting p ≡ true
+      p.came.standing ≡ Some w → memory_valid p ≡ true → kept_fitting p ≡ true
       → DidNothing (Ended (Stopped w)) p
   -- so where the last of such calls and closes is answered 51, 52 or 53, every call with what was then kept, whatever
   -- its piece and space, and every close gives that answer and does nothing
@@ -318,7 +321,7 @@ pub record InBursts : Type 1 where
   -- a close is 51 where bytes are kept and no answer stands
   pub close-short : (c : CloseFunctionCall)
       → let p = close_parts c in
-      memory_valid p ≡ true → kept_fitting p ≡ true → p.came.standing ≡ stands.Nothing → 0 < p.came.bytes.len
+      memory_valid p ≡ true → kept_fitting p ≡ true → p.came.standing ≡ None → 0 < p.came.bytes.len
       → (p.result.end ≡ Ended (Stopped stopped.CutShort)) × (p.after ≡ p.lent)
   -- a close answered 0 makes a fresh start
   pub close-afresh : (c : CloseFunctionCall) → c.result.end ≡ Ended AllRead → c.result.kept ≡ fresh_kept
@@ -336,7 +339,8 @@ pub record Demand3 : Type 1 where
   -- fallback setting, the first at the beginning and each later one at the position that the one before handed back:
   -- every clause of demand 3 holds
   pub all-clauses : (l : LoadCall) (t : Table) → AcceptedAs l t → (fallback : Bool) (cs : List AuditFunctionCall)
-      → InTurn l.result.table (left_after l) fallback (map call_of cs) → Claims t fallback entry_number (map call_of cs)
+      → InTurn (record_handed l.result) (left_after l) fallback (map call_of cs)
+      → Claims t fallback entry_number (map call_of cs)
   -- a code has cause 0 exactly when it round-trips (document 01: comes home), by the text's lines
   pub cause-zero : (t : Table) (fallback : Bool) (c : List ℕ) → (cause_of t fallback c ≡ 0) ↔ RoundTrips t fallback c
   -- and that is what the two strict conversions show, in any scheme, with space for a code each
@@ -349,13 +353,14 @@ pub record Demand3 : Type 1 where
       → RoundTrips t fallback s ↔ ((c.result.end ≡ AllRead) × (d.result.end ≡ AllRead) × (written_by d ≡ s))
   -- the causes otherwise, the lowest that holds: ended by `u`; no line reads it; written as another code; not written
   pub cause-one : (t : Table) (fallback : Bool) (c : List ℕ) → (RoundTrips t fallback c → ⊥)
-      → end_kind (steps_of t) 0 c ≡ 3 → cause_of t fallback c ≡ 1
-  pub cause-two : (t : Table) (fallback : Bool) (c : List ℕ) → (end_kind (steps_of t) 0 c ≡ 3 → ⊥)
+      → end_kind (steps_of t) 0 c ≡ Some Unassigned → cause_of t fallback c ≡ 1
+  pub cause-two : (t : Table) (fallback : Bool) (c : List ℕ) → (end_kind (steps_of t) 0 c ≡ Some Unassigned → ⊥)
       → reader c t.lines ≡ none → cause_of t fallback c ≡ 2
-  pub cause-three : (t : Table) (fallback : Bool) (c : List ℕ) → (end_kind (steps_of t) 0 c ≡ 3 → ⊥)
+  pub cause-three : (t : Table) (fallback : Bool) (c : List ℕ) → (end_kind (steps_of t) 0 c ≡ Some Unassigned → ⊥)
       → (l : Line) (d : List ℕ)
       → reader c t.lines ≡ some l → writes t fallback l.point ≡ code d → (d ≡ c → ⊥) → cause_of t fallback c ≡ 3
-  pub cause-four : (t : Table) (fallback : Bool) (c : List ℕ) → (end_kind (steps_of t) 0 c ≡ 3 → ⊥) → (l : Line)
+  pub cause-four : (t : Table) (fallback : Bool) (c : List ℕ) → (end_kind (steps_of t) 0 c ≡ Some Unassigned → ⊥)
+      → (l : Line)
       → reader c t.lines ≡ some l → ((d : List ℕ) → writes t fallback l.point ≡ code d → ⊥)
       → cause_of t fallback c ≡ 4
 

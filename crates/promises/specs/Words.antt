@@ -17,6 +17,7 @@ use Rattle.table.specs.declared.states.Code.{Code}
 use Rattle.table.specs.declared.valid.Record.{Record}
 use Rattle.table.specs.declared.load.Refusal.{Refusal}
 use Rattle.table.specs.declared.load.Refusal.TheVariants as refusal
+use Rattle.table.specs.Load.{record_handed}
 use Rattle.convert.specs.Run.{Run, converted_of, put_bytes, put_out, end_number, run_number, end_length, run_length}
 use Rattle.convert.specs.Pieces.{kept_fits, PieceAnswer, answered_of, piece_number, piece_length}
 use Rattle.convert.specs.PieceClaims.{PieceCall}
@@ -24,7 +25,8 @@ use Rattle.convert.specs.declared.Settings.{Settings}
 use Rattle.convert.specs.declared.pieces.Way.{Way}
 use Rattle.convert.specs.declared.pieces.PieceEnd.{PieceEnd}
 use Rattle.convert.proofs.to_unicode.Kinds as of-to-unicode
-use Rattle.audit.specs.Audit.{Answer, ending_number, audit_number, audited_of, space_after}
+use Rattle.audit.specs.Audit.{Answer, ending_number, audit_number, audited_of, ending_of, handed_on}
+use Rattle.audit.specs.Audit.{page_handed, space_after}
 use Rattle.audit.specs.Demand.{AuditCall}
 use Rattle.audit.specs.declared.Audited.{Audited}
 use Rattle.promises.specs.Calls.{CodeCall, PointCall}
@@ -71,23 +73,22 @@ pub record Words (rec : Record) (m : Slices) : Type 0 where
 
 -- ## Look-up
 
--- a call of `find_code`: record, codes, infos and the code; one of `find_point`: record, codes, infos, order and the
--- code point
+-- a call of `find_code`: record, lines and the code; one of `find_point`: record, lines and the code point
 abbrev pub FindsCode : CodeCall → Type 0
 FindsCode c =
     let a = c.args in
-    CodeFound a.0 a.1.0.now a.1.1.0.now a.1.1.1.0 c.result
+    CodeFound a.0 a.1.0.codes.now a.1.0.infos.now a.1.1.0 c.result
 
 abbrev pub FindsPoint : PointCall → Type 0
 FindsPoint c =
     let a = c.args in
-    PointFound a.0 a.1.0.now a.1.1.0.now a.1.1.1.0.now a.1.1.1.1.0 c.result
+    PointFound a.0 a.1.0.codes.now a.1.0.infos.now a.1.0.order.now a.1.1.0 c.result
 
 -- ## The conversions
 
 -- a call answers by this run: how it ended, bytes read and written, the number, the length of an illegal sequence; the
 -- output slice has the bytes in front and keeps the rest
-module _ {Post : Out 6 of-to-unicode.ps of-to-unicode.r} where
+module _ {Post : Out 3 of-to-unicode.ps of-to-unicode.r} where
   pub record AnswersBy (run : Run) (c : ConversionCall Post) : Type 0 where
     pub result : c.result ≡ converted_of run
     pub output : output_after c ≡ put_out run (output_lent c)
@@ -96,7 +97,7 @@ module _ {Post : Out 6 of-to-unicode.ps of-to-unicode.r} where
 
   -- a call on the record and the slices that a load handed back and left
   abbrev pub OnLoaded : LoadCall → ConversionCall Post → Type 0
-  OnLoaded l c = (record_given c ≡ l.result.table) × (slices_given c ≡ left_after l)
+  OnLoaded l c = (record_given c ≡ record_handed l.result) × (slices_given c ≡ left_after l)
 
 -- ## A conversion in pieces
 
@@ -140,7 +141,7 @@ close_call_of c = call_with (close_parts c)
 
 -- a call this way, in this scheme and with these settings, on the record and the slices that a load left
 pub record PieceOn (l : LoadCall) (way : Way) (e : Scheme) (settings : Settings) (p : PieceParts) : Type 0 where
-  pub on-table : p.table ≡ l.result.table
+  pub on-table : p.table ≡ record_handed l.result
   pub on-memory : p.memory ≡ left_after l
   pub one_way : p.way ≡ way
   pub one-scheme : p.scheme ≡ e
@@ -151,10 +152,12 @@ pub record PieceOn (l : LoadCall) (way : Way) (e : Scheme) (settings : Settings)
 -- a call answers by this definition
 pub record AuditsBy (a : Answer) (c : AuditFunctionCall) : Type 0 where
   pub result : c.result ≡ audited_of a
+  -- a refusal too: no entries, count 0, the position as it came, not finished
+  pub handed : handed_on (position_of c) c.result ≡ page_handed a.page
   pub space : space_afterwards c ≡ space_after a (space_lent c)
-  pub number : ending_number c.result.ending ≡ audit_number a
+  pub number : ending_number (ending_of c.result) ≡ audit_number a
 
--- the page that it handed back: its entries are the numbers in the space
+-- the page that it handed on: its entries are the numbers in the space
 abbrev pub page_in : Audited → List ℕ → Page ℕ Code
 page_in r space =
     record { entries = take r.written space; count = r.count; position = r.position; finished = r.finished }
@@ -166,12 +169,12 @@ call_of c =
       table = record_audited c;
       memory = slices_audited c;
       fallback = fallback_of c;
-      ending = c.result.ending;
+      ending = ending_of c.result;
       paged =
           record {
             allowance = allowance_of c;
             space = length (space_lent c);
             came = position_of c;
-            page = page_in c.result (space_afterwards c);
+            page = page_in (handed_on (position_of c) c.result) (space_afterwards c);
           };
     }

@@ -24,6 +24,7 @@ use Rattle.table.specs.declared.states.Cut.{Cut}
 use Rattle.table.specs.declared.states.Cut.TheVariants.{Complete, Stopped}
 use Rattle.table.proofs.RowLaws.{on_step, cut_from-∷, all_lead-∷, reached-∷}
 use Rattle.table.proofs.Depth.{within-row}
+use Rattle.table.specs.declared.states.EndKind.TheVariants.{Assigned}
 
 -- the breaking byte is the only one that may be left out
 pub broken-length : (x : Step) (k : ℕ) → (k ≤ broken_length x k) × (broken_length x k ≤ k + 1)
@@ -180,7 +181,7 @@ module _ (step : Rows) (row : ℕ) where
     }
 
 -- table K: 81 leads on to row 1; 2D, 33 and 81 are no illegal first bytes, FF is one
-k-cases : (cut_of (steps_of table_k) 0 (0x81 ∷ 0x7c ∷ 0x33 ∷ []) ≡ Complete 2 1)
+k-cases : (cut_of (steps_of table_k) 0 (0x81 ∷ 0x7c ∷ 0x33 ∷ []) ≡ Complete 2 Assigned)
     × (cut_of (steps_of table_k) 0 (0x81 ∷ []) ≡ Stopped cut_stop.CutShort)
     × (cut_of (steps_of table_k) 0 (0x81 ∷ 0x2d ∷ 0x33 ∷ []) ≡ Stopped (cut_stop.Illegal 1))
     × (cut_of (steps_of table_k) 0 (0x81 ∷ 0xff ∷ 0x33 ∷ []) ≡ Stopped (cut_stop.Illegal 2))

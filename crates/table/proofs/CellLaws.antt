@@ -4,7 +4,7 @@ use mathlib.Core.Path.{◌≡◌, refl, sym, ap, ◌∙◌}
 use mathlib.Core.Bool.{Bool, true, false}
 use mathlib.Core.List.{List, [], ◌∷◌, map}
 use native.Mathlib.Omega.{arith}
-use lib.Dec.{leb, eqb}
+use lib.Dec.{leb}
 use lib.ListN.{get_or, get_or-map}
 use borrow.Author.Tests.{leb-true, le-leb, lt-leb, ne_eqb}
 use Rattle.lists.specs.Pick.{pick}
@@ -12,7 +12,6 @@ use Rattle.table.specs.Cells.{Cell, illegal, ends, ends_any, ends_unassigned, le
 use Rattle.table.specs.States.{step_at}
 use Rattle.table.specs.Meaning.{flat, steps_on}
 use Rattle.table.specs.Memory.{numbers_of}
-use Rattle.table.specs.declared.states.Step.TheVariants.{Illegal, Ends}
 
 -- from 16 on a number leads on
 pub cell-far : (e : ℕ) → 16 ≤ e → cell_in e ≡ leads (e - 16)
@@ -23,15 +22,6 @@ cell-far e h = rw (le-leb 16 e h)
 pub cell_free : (e : ℕ) → 3 < e → e < 16 → cell_in e ≡ illegal
 unfolding cell_in
 cell_free e h k = rw (lt-leb 16 e k, ne_eqb e 1 (λ q. omega arith), ne_eqb e 2 (λ q. omega arith), ne_eqb e 3 (λ q. omega arith))
-
--- 1 to 3 end a code as they say
-pub cell-small : (e : ℕ) → e ≤ 3 → cell_step (cell_in e) ≡ pick (eqb e 0) Illegal (Ends e)
-unfolding cell_in
-cell-small zero h = refl
-cell-small (suc zero) h = refl
-cell-small (suc (suc zero)) h = refl
-cell-small (suc (suc (suc zero))) h = refl
-cell-small (suc (suc (suc (suc e)))) h = absurd (omega arith)
 
 -- there and back
 pub cell-back : (c : Cell) → cell_in (cell_number c) ≡ c
@@ -71,14 +61,6 @@ map-cell_in-cell_number (c ∷ l) = (λ i. cell-back c i ∷ map-cell_in-cell_nu
 
 pub numbers-one : (l m : List Cell) → map cell_number l ≡ map cell_number m → l ≡ m
 numbers-one l m e = sym (map-cell_in-cell_number l) ∙ ap (map cell_in) e ∙ map-cell_in-cell_number m
-
--- a code never ends as 0
-pub cell-ends : (c : Cell) (e : ℕ) → cell_step c ≡ Ends e → 1 ≤ e
-cell-ends illegal e h = absurd (let z : ◌≡◌ {A = ℕ} 0 1 = cc in omega arith)
-cell-ends ends e h = let q : 1 ≡ e = cc in omega arith
-cell-ends ends_any e h = let q : 2 ≡ e = cc in omega arith
-cell-ends ends_unassigned e h = let q : 3 ≡ e = cc in omega arith
-cell-ends (leads n) e h = absurd (let z : ◌≡◌ {A = ℕ} 0 1 = cc in omega arith)
 
 -- THE NUMBERS OF ROWS SAY WHAT THEIR CELLS SAY
 pub numbers-say : (rows : List (List Cell)) → step_at (numbers_of rows) ≡ steps_on rows

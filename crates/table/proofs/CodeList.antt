@@ -7,6 +7,7 @@ use mathlib.Core.List.{List, [], ◌∷◌, ◌++◌, map}
 use native.Mathlib.Nat.{suc-add, zero-add, add-zero, eq-or-lt_of_le}
 use native.Mathlib.Omega.{arith}
 use lib.ListN.{length}
+use Rattle.std.specs.Prelude.{Some, None}
 use Rattle.lists.specs.Pick.{pick}
 use Rattle.lists.specs.Order.{All, Pairs, In, Rising, filtered}
 use Rattle.lists.proofs.Order.{All-⇒, All-In⁻, All-In⁺, All-map⁺, Pairs-map⁺, In-map⁺, Rising-unique}
@@ -19,11 +20,10 @@ use Rattle.lists.specs.Strings.{before, after}
 use Rattle.table.specs.TableK.{table_k}
 use Rattle.table.specs.declared.states.Step.{Step}
 use Rattle.table.specs.declared.states.Step.TheVariants.{Illegal, Ends, Leads}
-use Rattle.table.specs.declared.codes.Next.TheVariants.{Found, Nothing}
-use Rattle.table.proofs.Cuts.{NoEndsZero}
 use Rattle.table.proofs.Depth.{short-code}
 use Rattle.lists.proofs.Filter.{filtered-append}
 use Rattle.lists.proofs.Strings.{before-irrefl, before-trans, before-<, before-∷, after-map-low}
+use Rattle.table.specs.declared.states.EndKind.{EndKind}
 
 -- the codes of a byte are strings with that byte in front
 abbrev rests : (ℕ → List (List ℕ)) → Step → List (List ℕ)
@@ -127,7 +127,7 @@ rising-codes step (suc f) row = rising-scan (codes_from step f) step row (rising
 
 -- a property of codes that goes back from a row led to
 codes-by : (step : Rows) (P : ℕ → ℕ → List ℕ → Type 0)
-    → ((f row b e : ℕ) → b < 256 → step row b ≡ Ends e → P (suc f) row (b ∷ []))
+    → ((f row b : ℕ) (e : EndKind) → b < 256 → step row b ≡ Ends e → P (suc f) row (b ∷ []))
     → ((f row b n : ℕ) (s : List ℕ) → b < 256 → step row b ≡ Leads n → P f n s → P (suc f) row (b ∷ s))
     → (f row : ℕ) → All (P f row) (codes_from step f row)
 unfolding codes_from
@@ -154,73 +154,73 @@ codes-bytes step =
 
 -- how a string ends, by what the row says of its first byte
 end-kind-at : (step : Rows) (row b : ℕ) (s : List ℕ) (x : Step) → step row b ≡ x
-    → end_kind step row (b ∷ s) ≡ elim x [ Illegal ↦ 0 | Ends e ↦ pick (is_empty s) e 0 | Leads n ↦ end_kind step n s ]
+    → end_kind step row (b ∷ s) ≡ elim x [ Illegal ↦ None | Ends e ↦ pick (is_empty s) (Some e) None | Leads n ↦ end_kind step n s ]
 unfolding end_kind
 end-kind-at step row b s x q = rw (q, end_kind)
 
 -- what is listed is a complete code of 1 to f bytes
 pub record CompleteCode (step : Rows) (f row : ℕ) (s : List ℕ) : Type 0 where
-  pub ends : end_kind step row s ≡ 0 → ⊥
+  pub ends : end_kind step row s ≡ None → ⊥
   pub bytes : AllByte s
   pub some : 1 ≤ length s
   pub short : length s ≤ f
 
-pub codes-are-codes : (step : Rows) → NoEndsZero step → (f row : ℕ) → All (CompleteCode step f row) (codes_from step f row)
+pub codes-are-codes : (step : Rows) → (f row : ℕ) → All (CompleteCode step f row) (codes_from step f row)
 unfolding AllByte
-codes-are-codes step nz =
+codes-are-codes step =
     codes-by step (CompleteCode step)
-    (λ f row b e h q. record { ends = λ z. let p : 1 ≤ e = nz row b e q in let w : e ≡ 0 = sym (end-kind-at step row b [] (Ends e) q) ∙ z in omega arith; bytes = (h, tt); some = omega arith; short = omega arith })
+    (λ f row b e h q. record { ends = λ z. let w : Some e ≡ None = sym (end-kind-at step row b [] (Ends e) q) ∙ z in let u : ◌≡◌ {A = ℕ} 0 1 = cc in omega arith; bytes = (h, tt); some = omega arith; short = omega arith })
     (λ f row b n s h q p. record { ends = λ z. p.ends (sym (end-kind-at step row b s (Leads n) q) ∙ z); bytes = (h, p.bytes); some = omega arith; short = omega (arith, p.short) })
 
 -- every complete code of at most f bytes is listed
-pub codes_all : (step : Rows) (f row : ℕ) (s : List ℕ) → AllByte s → length s ≤ f → (end_kind step row s ≡ 0 → ⊥) → In s (codes_from step f row)
+pub codes_all : (step : Rows) (f row : ℕ) (s : List ℕ) → AllByte s → length s ≤ f → (end_kind step row s ≡ None → ⊥) → In s (codes_from step f row)
 unfolding codes_from AllByte end_kind
 codes_all step f row [] a le c = absurd (c refl)
 codes_all step zero row (b ∷ s) a le c = absurd (omega arith)
 codes_all step (suc f) row (b ∷ s) a le c = in-scan (codes_from step f) step row b (b ∷ s) (go s (λ n. codes_all step f n s a.1 (omega arith)) c (step row b) refl) 256 0 (omega arith) (omega (arith, a.0))
   where
-    go : (t : List ℕ) → ((n : ℕ) → (end_kind step n t ≡ 0 → ⊥) → In t (codes_from step f n)) → (end_kind step row (b ∷ t) ≡ 0 → ⊥) → (x : Step) → step row b ≡ x → In (b ∷ t) (codes_on (codes_from step f) b x)
+    go : (t : List ℕ) → ((n : ℕ) → (end_kind step n t ≡ None → ⊥) → In t (codes_from step f n)) → (end_kind step row (b ∷ t) ≡ None → ⊥) → (x : Step) → step row b ≡ x → In (b ∷ t) (codes_on (codes_from step f) b x)
     go t ih c Illegal q = absurd (c (end-kind-at step row b t Illegal q))
     go [] ih c (Ends e) q = inl refl
     go (a ∷ t) ih c (Ends e) q = absurd (c (end-kind-at step row b (a ∷ t) (Ends e) q))
     go t ih c (Leads n) q = In-map⁺ (λ s. b ∷ s) t (codes_from step f n) (ih n (λ z. c (end-kind-at step row b t (Leads n) q ∙ z)))
 
 -- where T3 holds the bound of four bytes leaves no complete code out
-pub codes-whole : (step : Rows) (d row : ℕ) (s : List ℕ) → within step d row ≡ true → d ≤ 4 → AllByte s → (end_kind step row s ≡ 0 → ⊥) → In s (all_codes step row)
+pub codes-whole : (step : Rows) (d row : ℕ) (s : List ℕ) → within step d row ≡ true → d ≤ 4 → AllByte s → (end_kind step row s ≡ None → ⊥) → In s (all_codes step row)
 codes-whole step d row s w le a c = let h = short-code step d row s w a c in codes_all step 4 row s a (omega arith) c
 
 -- no complete code begins another
-pub code-alone : (step : Rows) (row : ℕ) (s t : List ℕ) → (end_kind step row s ≡ 0 → ⊥) → (end_kind step row (s ++ t) ≡ 0 → ⊥) → t ≡ []
+pub code-alone : (step : Rows) (row : ℕ) (s t : List ℕ) → (end_kind step row s ≡ None → ⊥) → (end_kind step row (s ++ t) ≡ None → ⊥) → t ≡ []
 unfolding end_kind
 code-alone step row [] t c d = absurd (c refl)
 code-alone step row (b ∷ s) t c d = go (step row b) refl (λ n. code-alone step n s t)
   where
-    one : (e : ℕ) (u : List ℕ) → step row b ≡ Ends e → (end_kind step row (b ∷ u) ≡ 0 → ⊥) → (end_kind step row (b ∷ (u ++ t)) ≡ 0 → ⊥) → t ≡ []
+    one : (e : EndKind) (u : List ℕ) → step row b ≡ Ends e → (end_kind step row (b ∷ u) ≡ None → ⊥) → (end_kind step row (b ∷ (u ++ t)) ≡ None → ⊥) → t ≡ []
     one e [] q c d = nil t d
       where
-        nil : (v : List ℕ) → (end_kind step row (b ∷ v) ≡ 0 → ⊥) → v ≡ []
+        nil : (v : List ℕ) → (end_kind step row (b ∷ v) ≡ None → ⊥) → v ≡ []
         nil [] d = refl
         nil (x ∷ v) d = absurd (d (end-kind-at step row b (x ∷ v) (Ends e) q))
     one e (x ∷ u) q c d = absurd (c (end-kind-at step row b (x ∷ u) (Ends e) q))
 
-    go : (x : Step) → step row b ≡ x → ((n : ℕ) → (end_kind step n s ≡ 0 → ⊥) → (end_kind step n (s ++ t) ≡ 0 → ⊥) → t ≡ []) → t ≡ []
+    go : (x : Step) → step row b ≡ x → ((n : ℕ) → (end_kind step n s ≡ None → ⊥) → (end_kind step n (s ++ t) ≡ None → ⊥) → t ≡ []) → t ≡ []
     go Illegal q ih = absurd (c (end-kind-at step row b s Illegal q))
     go (Ends e) q ih = one e s q c d
     go (Leads n) q ih = ih n (λ z. c (end-kind-at step row b s (Leads n) q ∙ z)) (λ z. d (end-kind-at step row b (s ++ t) (Leads n) q ∙ z))
 
 -- of two different members neither begins the other
-pub prefix-free : (step : Rows) → NoEndsZero step → (f row : ℕ) (s t : List ℕ) → In s (codes_from step f row) → In (s ++ t) (codes_from step f row) → t ≡ []
-prefix-free step nz f row s t i j =
-    let all = codes-are-codes step nz f row in
+pub prefix-free : (step : Rows) → (f row : ℕ) (s t : List ℕ) → In s (codes_from step f row) → In (s ++ t) (codes_from step f row) → t ≡ []
+prefix-free step f row s t i j =
+    let all = codes-are-codes step f row in
     code-alone step row s t (All-In⁻ (CompleteCode step f row) s (codes_from step f row) all i).ends (All-In⁻ (CompleteCode step f row) (s ++ t) (codes_from step f row) all j).ends
 
 -- any rising list of exactly the complete codes of at most four bytes is the list of the complete codes
-pub the-list : (step : Rows) → NoEndsZero step → (row : ℕ) (l : List (List ℕ)) → Rising before l
+pub the-list : (step : Rows) → (row : ℕ) (l : List (List ℕ)) → Rising before l
     → ((s : List ℕ) → In s l → CompleteCode step 4 row s) → ((s : List ℕ) → CompleteCode step 4 row s → In s l) → l ≡ all_codes step row
-the-list step nz row l r f g =
+the-list step row l r f g =
     Rising-unique before before-irrefl before-trans l (all_codes step row) r (rising-codes step 4 row)
     (λ s i. let c = f s i in codes_all step 4 row s c.bytes c.short c.ends)
-    (λ s i. g s (All-In⁻ (CompleteCode step 4 row) s (all_codes step row) (codes-are-codes step nz 4 row) i))
+    (λ s i. g s (All-In⁻ (CompleteCode step 4 row) s (all_codes step row) (codes-are-codes step 4 row) i))
 
 -- rows below the limit lead on to such rows alone
 abbrev pub LeadsInside : (rows : ℕ) → Rows → Type 0
@@ -241,8 +241,8 @@ codes-agree rows step steps inside same (suc f) row lt =
 
 -- document 01's table K: row 0 has 2d, 30, 33, 3f and leads on from 81; row 1 has 7c, 7d and, unassigned, 80
 k-codes : (length (all_codes (steps_of table_k) 0) ≡ 7)
-    × (next_of (steps_of table_k) 0 [] ≡ Found (record { bits = 0x2d000000; len = 1 }))
-    × (next_of (steps_of table_k) 0 (0x81 ∷ 0x7d ∷ []) ≡ Found (record { bits = 0x81800000; len = 2 }))
-    × (next_of (steps_of table_k) 0 (0x81 ∷ 0x80 ∷ []) ≡ Nothing)
+    × (next_of (steps_of table_k) 0 [] ≡ Some (record { bits = 0x2d000000; len = 1 }))
+    × (next_of (steps_of table_k) 0 (0x81 ∷ 0x7d ∷ []) ≡ Some (record { bits = 0x81800000; len = 2 }))
+    × (next_of (steps_of table_k) 0 (0x81 ∷ 0x80 ∷ []) ≡ None)
 unfolding table_k flat steps_on codes_from scan filtered before packed
 k-codes = (refl, refl, refl, refl)

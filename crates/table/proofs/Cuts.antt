@@ -7,9 +7,7 @@ use native.Mathlib.Numerals.{sub-one}
 use native.Mathlib.Omega.{arith}
 use lib.ListN.{length, get_or, take, drop}
 use Rattle.lists.proofs.Laws.{clash, drop-∷, drop_past}
-use Rattle.table.specs.Cells.{Cell, illegal, cell_in}
-use Rattle.table.specs.States.{Rows, step_at, broken_length, cut_from, cut_of, end_kind, longest}
-use Rattle.table.specs.Meaning.{flat, steps_on}
+use Rattle.table.specs.States.{Rows, broken_length, cut_from, cut_of, end_kind, longest}
 use Rattle.table.specs.Codes.{AllByte, unpacked}
 use Rattle.table.specs.Illegal.{all_lead}
 use Rattle.table.specs.declared.states.Step.{Step}
@@ -17,9 +15,10 @@ use Rattle.table.specs.declared.states.Step.TheVariants.{Illegal, Ends, Leads}
 use Rattle.table.specs.declared.states.CutStop.TheVariants as cut_stop
 use Rattle.table.specs.declared.states.Cut.{Cut}
 use Rattle.table.specs.declared.states.Cut.TheVariants.{Complete, Stopped}
-use Rattle.table.proofs.CellLaws.{cell-ends}
 use Rattle.table.proofs.RowLaws.{on_step, cut_from-∷, end_on, end_kind-∷, led_on, all_lead-∷}
 use Rattle.table.proofs.Depth.{Agree}
+use Rattle.std.specs.Prelude.{Option, Some}
+use Rattle.table.specs.declared.states.EndKind.{EndKind}
 
 -- the next byte of an input, and the end of it
 module _ (step : Rows) (first : ℕ) where
@@ -49,26 +48,12 @@ unfolding unpacked
 end_kind-unpacked step row zero v x h q = absurd (omega arith)
 end_kind-unpacked step row (suc n) v x h q = rw sub-one (end_kind-∷ step row (v / 16777216) (unpacked n (v % 16777216 * 256)) x q)
 
--- ends that are never 0, as those of cells are not
-abbrev pub NoEndsZero : Rows → Type 0
-NoEndsZero step = (row b e : ℕ) → step row b ≡ Ends e → 1 ≤ e
-
-pub no-ends-zero : (rows : List (List Cell)) → NoEndsZero (steps_on rows)
-unfolding steps_on
-no-ends-zero rows row b e h = cell-ends (get_or (flat rows) (row * 256 + b) illegal) e h
-
--- nor those in memory
-pub no-ends-zero-at : (l : List ℕ) → NoEndsZero (step_at l)
-unfolding step_at
-no-ends-zero-at l row b e h = cell-ends (cell_in (get_or l (row * 256 + b) 0)) e h
-
 -- m bytes were read, those from k on are a code that ends by e
-pub record CutCode (step : Rows) (f row k : ℕ) (s : List ℕ) (m e : ℕ) : Type 0 where
+pub record CutCode (step : Rows) (f row k : ℕ) (s : List ℕ) (m : ℕ) (e : EndKind) : Type 0 where
   pub some : k < m
   pub inside : m ≤ k + length s
   pub few : m ≤ k + f
-  pub ends : end_kind step row (take (m - k) s) ≡ e
-  pub kind : 1 ≤ e
+  pub ends : end_kind step row (take (m - k) s) ≡ Some e
 
 -- the laws below at one byte, by what the row says of it
 on-more : (broken k : ℕ) (x : Step) (go go' : ℕ → Cut) → ((n : ℕ) → (go n ≡ Stopped cut_stop.CutShort → ⊥) → go' n ≡ go n)
@@ -92,21 +77,20 @@ lead-by broken k (Leads n) go all ih c = ih n c
 
 -- a sequence that began in the row `first`
 module _ (step : Rows) (first : ℕ) where
-  complete-by : (f row k b : ℕ) (s : List ℕ) (m e : ℕ) → NoEndsZero step
+  complete-by : (f row k b : ℕ) (s : List ℕ) (m : ℕ) (e : EndKind)
       → ((n : ℕ) → cut_from step first f n (k + 1) s ≡ Complete m e → CutCode step f n (k + 1) s m e)
       → (x : Step)
       → step row b ≡ x
       → on_step x (broken_length (step first b) k) k (λ n. cut_from step first f n (k + 1) s) ≡ Complete m e
       → CutCode step (suc f) row k (b ∷ s) m e
-  complete-by f row k b s m e h ih Illegal q c = absurd (let z : ◌≡◌ {A = ℕ} 0 1 = cc in omega arith)
-  complete-by f row k b s m e h ih (Ends y) q c =
+  complete-by f row k b s m e ih Illegal q c = absurd (let z : ◌≡◌ {A = ℕ} 0 1 = cc in omega arith)
+  complete-by f row k b s m e ih (Ends y) q c =
       let u : k + 1 ≡ m = cc in
-      let v : y ≡ e = cc in
+      let v : Some y ≡ Some e = cc in
       let w : m - k ≡ 1 = omega arith in
-      let z : 1 ≤ y = h row b y q in
       record
-      { some = omega arith; inside = omega arith; few = omega arith; ends = rw w (end_kind-∷ step row b [] (Ends y) q ∙ v); kind = omega arith }
-  complete-by f row k b s m e h ih (Leads n) q c =
+      { some = omega arith; inside = omega arith; few = omega arith; ends = rw w (end_kind-∷ step row b [] (Ends y) q ∙ v) }
+  complete-by f row k b s m e ih (Leads n) q c =
       let r = ih n c in
       let p = r.some in
       let w : m - k ≡ suc (m - (k + 1)) = omega arith in
@@ -115,42 +99,41 @@ module _ (step : Rows) (first : ℕ) where
         inside = omega (arith, r.inside);
         few = omega (arith, r.few);
         ends = rw w (end_kind-∷ step row b (take (m - (k + 1)) s) (Leads n) q ∙ r.ends);
-        kind = r.kind;
       }
 
-  pub cut-complete : (f row k : ℕ) (s : List ℕ) (m e : ℕ)
-      → NoEndsZero step
+  pub cut-complete : (f row k : ℕ) (s : List ℕ) (m : ℕ) (e : EndKind)
       → cut_from step first f row k s ≡ Complete m e
       → CutCode step f row k s m e
   unfolding cut_from
-  cut-complete zero row k s m e h c = absurd (let z : ◌≡◌ {A = ℕ} 0 1 = cc in omega arith)
-  cut-complete (suc f) row k [] m e h c = absurd (let z : ◌≡◌ {A = ℕ} 0 1 = cc in omega arith)
-  cut-complete (suc f) row k (b ∷ s) m e h c =
-      complete-by f row k b s m e h (λ n. cut-complete f n (k + 1) s m e h) (step row b) refl
+  cut-complete zero row k s m e c = absurd (let z : ◌≡◌ {A = ℕ} 0 1 = cc in omega arith)
+  cut-complete (suc f) row k [] m e c = absurd (let z : ◌≡◌ {A = ℕ} 0 1 = cc in omega arith)
+  cut-complete (suc f) row k (b ∷ s) m e c =
+      complete-by f row k b s m e (λ n. cut-complete f n (k + 1) s m e) (step row b) refl
       (sym (cut_from-∷ step first f row k b s (step row b) refl) ∙ c)
 
   -- a code at the front is cut, whatever follows
-  code_by : (f row k b : ℕ) (s t : List ℕ) (e : ℕ) → (e ≡ 0 → ⊥)
-      → ((n : ℕ) → end_kind step n s ≡ e → cut_from step first f n (k + 1) (s ++ t) ≡ Complete (k + 1 + length s) e)
+  code_by : (f row k b : ℕ) (s t : List ℕ) (e : EndKind)
+      → ((n : ℕ) → end_kind step n s ≡ Some e → cut_from step first f n (k + 1) (s ++ t) ≡ Complete (k + 1 + length s) e)
       → (x : Step)
       → step row b ≡ x
-      → end_on x s (λ n. end_kind step n s) ≡ e
+      → end_on x s (λ n. end_kind step n s) ≡ Some e
       → cut_from step first (suc f) row k (b ∷ (s ++ t)) ≡ Complete (k + suc (length s)) e
-  code_by f row k b s t e pos ih Illegal q c = absurd (pos (sym c))
-  code_by f row k b [] t e pos ih (Ends y) q c =
-      cut_from-∷ step first f row k b t (Ends y) q ∙ ap (λ (z : ℕ). Complete (k + 1) z) c
-  code_by f row k b (a ∷ s) t e pos ih (Ends y) q c = absurd (pos (sym c))
-  code_by f row k b s t e pos ih (Leads n) q c =
+  code_by f row k b s t e ih Illegal q c = absurd (let z : ◌≡◌ {A = ℕ} 0 1 = cc in omega arith)
+  code_by f row k b [] t e ih (Ends y) q c =
+      let same : y ≡ e = cc in
+      cut_from-∷ step first f row k b t (Ends y) q ∙ ap (λ (z : EndKind). Complete (k + 1) z) same
+  code_by f row k b (a ∷ s) t e ih (Ends y) q c = absurd (let z : ◌≡◌ {A = ℕ} 0 1 = cc in omega arith)
+  code_by f row k b s t e ih (Leads n) q c =
       let w : k + 1 + length s ≡ k + suc (length s) = omega arith in
       cut_from-∷ step first f row k b (s ++ t) (Leads n) q ∙ ih n c ∙ ap (λ (z : ℕ). Complete z e) w
 
-  pub cut-code : (f row k : ℕ) (c t : List ℕ) (e : ℕ) → end_kind step row c ≡ e → (e ≡ 0 → ⊥) → length c ≤ f
+  pub cut-code : (f row k : ℕ) (c t : List ℕ) (e : EndKind) → end_kind step row c ≡ Some e → length c ≤ f
       → cut_from step first f row k (c ++ t) ≡ Complete (k + length c) e
   unfolding end_kind
-  cut-code f row k [] t e h pos le = absurd (pos (sym h))
-  cut-code zero row k (b ∷ c) t e h pos le = absurd (omega arith)
-  cut-code (suc f) row k (b ∷ c) t e h pos le =
-      code_by f row k b c t e pos (λ n q. cut-code f n (k + 1) c t e q pos (omega arith)) (step row b) refl
+  cut-code f row k [] t e h le = absurd (let z : ◌≡◌ {A = ℕ} 0 1 = cc in omega arith)
+  cut-code zero row k (b ∷ c) t e h le = absurd (omega arith)
+  cut-code (suc f) row k (b ∷ c) t e h le =
+      code_by f row k b c t e (λ n q. cut-code f n (k + 1) c t e q (omega arith)) (step row b) refl
       (sym (end_kind-∷ step row b c (step row b) refl) ∙ h)
 
   -- more input changes nothing but what was cut short
@@ -202,7 +185,7 @@ on-agree broken broken' k Illegal go go' e h = ap (λ (m : ℕ). Stopped (cut_st
 on-agree broken broken' k (Ends y) go go' e h = refl
 on-agree broken broken' k (Leads n) go go' e h = h n refl
 
-end-agree-by : (s : List ℕ) (x : Step) (go go' : ℕ → ℕ)
+end-agree-by : (s : List ℕ) (x : Step) (go go' : ℕ → Option EndKind)
     → ((n : ℕ) → x ≡ Leads n → go n ≡ go' n)
     → end_on x s go ≡ end_on x s go'
 end-agree-by s Illegal go go' h = refl
@@ -236,10 +219,9 @@ module _ (rows : ℕ) (a c : Rows) (g : Agree rows a c) where
 
 -- a complete code lies in the input and has one to four bytes, whatever the states are
 pub cut-within : (step : Rows)
-    → NoEndsZero step
-    → (s : List ℕ) (row n kind : ℕ)
+    → (s : List ℕ) (row n : ℕ) (kind : EndKind)
     → cut_of step row s ≡ Complete n kind
     → (1 ≤ n) × (n ≤ longest) × (n ≤ length s)
-cut-within step z s row n kind e =
-    let r = cut-complete step row longest row 0 s n kind z e in
+cut-within step s row n kind e =
+    let r = cut-complete step row longest row 0 s n kind e in
     (r.some, omega (arith, r.few), omega (arith, r.inside))

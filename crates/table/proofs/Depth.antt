@@ -21,6 +21,8 @@ use Rattle.table.specs.declared.states.Step.{Step}
 use Rattle.table.specs.declared.states.Step.TheVariants.{Illegal, Ends, Leads}
 use Rattle.table.proofs.RowLaws.{small-ok, end_on, end_kind-∷}
 use Rattle.lists.proofs.Tests.{all_of-get_d, get_d-zeros, all_below-yes⁻}
+use Rattle.std.specs.Prelude.{Option, None}
+use Rattle.table.specs.declared.states.EndKind.{EndKind}
 
 -- T3 at a byte that leads on
 pub within-row : (step : Rows) (d row b n : ℕ) → within step (suc d) row ≡ true → b < 256 → step row b ≡ Leads n → within step d n ≡ true
@@ -28,13 +30,13 @@ unfolding within
 within-row step d row b n h lt e = rw e at (all_below-yes⁻ (λ a. leads_to (within step d) (step row a)) 256 h b lt)
 
 -- where every way leads on fewer than d times a code has at most d bytes
-short-by : (d : ℕ) (s : List ℕ) (x : Step) (go : ℕ → ℕ) → ((n : ℕ) → x ≡ Leads n → (go n ≡ 0 → ⊥) → length s ≤ d) → (end_on x s go ≡ 0 → ⊥) → length s ≤ d
+short-by : (d : ℕ) (s : List ℕ) (x : Step) (go : ℕ → Option EndKind) → ((n : ℕ) → x ≡ Leads n → (go n ≡ None → ⊥) → length s ≤ d) → (end_on x s go ≡ None → ⊥) → length s ≤ d
 short-by d s Illegal go ih h = absurd (h refl)
 short-by d [] (Ends e) go ih h = omega arith
 short-by d (b ∷ s) (Ends e) go ih h = absurd (h refl)
 short-by d s (Leads n) go ih h = ih n refl h
 
-pub short-code : (step : Rows) (d row : ℕ) (s : List ℕ) → within step d row ≡ true → AllByte s → (end_kind step row s ≡ 0 → ⊥) → length s ≤ d
+pub short-code : (step : Rows) (d row : ℕ) (s : List ℕ) → within step d row ≡ true → AllByte s → (end_kind step row s ≡ None → ⊥) → length s ≤ d
 unfolding within AllByte
 short-code step d row [] w a h = omega arith
 short-code step zero row (b ∷ s) w a h = absurd (clash w refl)

@@ -212,10 +212,10 @@ module _ (bits len n : ℕ) (codes infos : List ℕ) (at gap : ℕ) where
         go false p = reads-far (ltb-false gap far p)
 
   pub gap-found : n ≤ length codes → n ≤ length infos → 1 ≤ len → len ≤ 4
-      → get_or infos at 0 < 4294967296
+      → get_or (take n infos) at 0 < 4294967296
       → GapAt (CodeGap (take n codes) (take n infos) (code_key bits len)) n at gap
       → GapTells bits len n codes infos at gap
-  gap-found cl il lo hi fits g = go (ltb at n) refl
+  gap-found cl il lo hi near g = go (ltb at n) refl
     where
       at-is : at < n → stored_key here ≡ stored_key (code_key bits len) + gap
       at-is h = sym (λ t. get_or-take n codes at 0 h t * 4294967296 + get_or-take n infos at 0 h t) ∙ g.0 h
@@ -230,6 +230,7 @@ module _ (bits len n : ℕ) (codes infos : List ℕ) (at gap : ℕ) where
           }
       go true p =
           let h = ltb-true at n p in
+          let fits : get_or infos at 0 < 4294967296 = omega (arith, get_or-take n infos at 0 h, near) in
           record {
             told = holds-in (reads_code bits len) n codes infos at h (omega arith) (omega arith)
                 ∙ told_at lo hi fits (at-is h);

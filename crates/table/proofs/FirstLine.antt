@@ -5,6 +5,9 @@
 -- refused-exactly      and is given exactly then
 -- accepted-no-condition       accepted exactly when no condition holds at any line and END CHARMAP came
 -- Cited by docs/RULES.md: first-line-lowest, refused-exactly, accepted-no-condition. Assumes nothing.
+use Rattle.std.specs.Prelude.{Some, None}
+use Rattle.table.specs.Header.{ReadLine}
+use Rattle.std.specs.Prelude.{Ok, Err}
 use Prim.Native.Nat.{ℕ, suc, ◌+◌}
 use mathlib.Core.Path.{◌≡◌, refl, sym, ap, subst, ◌∙◌}
 use mathlib.Core.Logic.{◌⊎◌, inl, inr, ◌↔◌}
@@ -18,20 +21,17 @@ use Rattle.table.specs.Meaning.{Line, Table}
 use Rattle.table.specs.Text.{lines_of}
 use Rattle.table.specs.Header.{header_line_of}
 use Rattle.table.specs.Mapping.{BodyLine, no_form, reserved, blank, ending, mapping, body_line_of, after_end_of}
-use Rattle.table.specs.Numbers.{lowest, behind_conditions}
+use Rattle.table.specs.Numbers.{lowest, behind_conditions, Verdict}
 use Rattle.table.specs.Load.{Reading, goes_on, judged, line_as, header_asks, mapping_asks, last_asks, phase_asks, line_step, table_of, accepted, refused, outcome_at, load_go, start, load_of}
 use Rattle.table.specs.FirstLine.{conditions_at, reading_after, reading_after_all, NoCondition, FirstHolds, NeverEnds, Unrefused}
 use Rattle.table.specs.Keys.{Keys}
 use Rattle.table.specs.declared.header.HeaderLine.TheVariants as header
 use Rattle.table.specs.declared.load.Refusal.{Refusal}
 use Rattle.table.specs.declared.load.Refusal.TheVariants as refusal
-use Rattle.table.specs.declared.load.Verdict.{Verdict}
-use Rattle.table.specs.declared.load.Verdict.TheVariants.{Fine, Refuse}
 use Rattle.table.specs.declared.load.Phase.{Phase}
 use Rattle.table.specs.declared.load.Phase.TheVariants.{Header, Mappings, Ended}
 use Rattle.table.proofs.LowestLaws.{by_number, key-rises, charmap-rises, mapping-rises, lowest-fine, fine-lowest, lowest-holds, holds-lowest}
 use Rattle.table.proofs.Accepted.{refused-accepted, accepted-injective, stop-outcome}
-use Rattle.table.specs.declared.header.HeaderLine.{HeaderLine}
 use mathlib.Core.Bool.{Bool, true, false}
 
 form-rises : (ended : Bool) (x : BodyLine) → Rising by_number (behind_conditions ended x)
@@ -63,7 +63,7 @@ record Stops (lim : Limits) (r : Reading) (ls : List (List ℕ)) : Type 0 where
   refusal : Refusal
   lines_are : ls ≡ earlier ++ line ∷ later
   no-condition : NoCondition lim r earlier
-  verdict : lowest (conditions_at lim (reading_after_all lim r earlier) line) ≡ Refuse refusal
+  verdict : lowest (conditions_at lim (reading_after_all lim r earlier) line) ≡ Err refusal
 
 -- one of the three holds of every text
 data Cases (lim : Limits) (ls : List (List ℕ)) : Type 0 where
@@ -73,12 +73,12 @@ data Cases (lim : Limits) (ls : List (List ℕ)) : Type 0 where
 
 module _ (lim : Limits) where
   -- every table of conditions rises by number
-  header-rises : (h : Keys) (rows : List (List Cell)) (s : List ℕ) (x : HeaderLine)
+  header-rises : (h : Keys) (rows : List (List Cell)) (s : List ℕ) (x : ReadLine)
       → Rising by_number (header_asks lim h rows s x).conditions
-  header-rises h rows s header.NoForm = (tt, tt)
-  header-rises h rows s header.Blank = (tt, tt)
-  header-rises h rows s header.Charmap = charmap-rises h rows
-  header-rises h rows s (header.Known k v q e) = key-rises lim h (length rows) k v
+  header-rises h rows s None = (tt, tt)
+  header-rises h rows s (Some header.Blank) = (tt, tt)
+  header-rises h rows s (Some header.Charmap) = charmap-rises h rows
+  header-rises h rows s (Some (header.Known k v q e)) = key-rises lim h (length rows) k v
 
   mapping-line-rises : (h : Keys) (rows : List (List Cell)) (ls : List Line) (x : BodyLine)
       → Rising by_number (mapping_asks lim h rows ls x).conditions
@@ -112,7 +112,7 @@ module _ (lim : Limits) where
 
   -- the line that is named
   line-go : (line : List ℕ) (later : List (List ℕ)) (k : ℕ) (r : Reading) (x : Refusal)
-      → lowest (conditions_at lim r line) ≡ Refuse x
+      → lowest (conditions_at lim r line) ≡ Err x
       → load_go lowest lim k (line ∷ later) (goes_on r) ≡ refused x (k + 1)
   unfolding load_go
   line-go line later k r x e =
@@ -128,8 +128,8 @@ module _ (lim : Limits) where
           → lowest (conditions_at lim r l) ≡ v
           → NoCondition lim (reading_after lim r l) ls ⊎ Stops lim (reading_after lim r l) ls
           → NoCondition lim r (l ∷ ls) ⊎ Stops lim r (l ∷ ls)
-      go Fine e (inl q) = inl (lowest-fine (conditions_at lim r l) e, q)
-      go Fine e (inr s) =
+      go (Ok tt) e (inl q) = inl (lowest-fine (conditions_at lim r l) e, q)
+      go (Ok tt) e (inr s) =
           inr (record {
             earlier = l ∷ s.earlier;
             line = s.line;
@@ -139,7 +139,7 @@ module _ (lim : Limits) where
             no-condition = (lowest-fine (conditions_at lim r l) e, s.no-condition);
             verdict = s.verdict;
           })
-      go (Refuse x) e d =
+      go (Err x) e d =
           inr (record { earlier = []; line = l; later = ls; refusal = x; lines_are = refl; no-condition = tt; verdict = e })
 
   stops_first : (ls : List (List ℕ)) (s : Stops lim start ls) → FirstHolds lim ls s.refusal (length s.earlier + 1)

@@ -34,16 +34,17 @@ use Rattle.table.proofs.TestParts.{kept_line, Tested}
 use Rattle.table.proofs.ReadBack.{t10-sorted}
 use Rattle.table.proofs.NumbersBack.{sub1_in-sub1_of}
 use Rattle.lists.specs.Tests.{all_of}
+use Rattle.std.specs.Prelude.{None}
 
 -- from the form to the test
-pub code-length : (step : Rows) (c : List ℕ) → is_code step 0 c ≡ true → (end_kind step 0 c ≡ 0 → ⊥) × (1 ≤ length c)
+pub code-length : (step : Rows) (c : List ℕ) → is_code step 0 c ≡ true → (end_kind step 0 c ≡ None → ⊥) × (1 ≤ length c)
 unfolding end_kind
 code-length step c h = (ends, long c ends)
   where
-    ends : end_kind step 0 c ≡ 0 → ⊥
+    ends : end_kind step 0 c ≡ None → ⊥
     ends e = clash h (rw e)
 
-    long : (s : List ℕ) → (end_kind step 0 s ≡ 0 → ⊥) → 1 ≤ length s
+    long : (s : List ℕ) → (end_kind step 0 s ≡ None → ⊥) → 1 ≤ length s
     long [] q = absurd (q refl)
     long (b ∷ s) q = omega arith
 

@@ -10,7 +10,7 @@ use Rattle.lists.specs.Ascii.{ascii}
 use Rattle.lists.proofs.Cases.{pick-case}
 use Rattle.table.specs.Text.{byte_of, skip_at, ends_at, is_charmap, unicode_at}
 use Rattle.lists.specs.Strings.{begins}
-use Rattle.table.specs.Mapping.{BodyLine, no_form, reserved, blank, ending, mapping, mapping_form, is_end, body_line_at, body_line_of, after_end_at, after_end_of}
+use Rattle.table.specs.Mapping.{BodyLine, no_form, reserved, blank, ending, mapping, mapping_form, is_end, body_line_of, after_end_of}
 use Rattle.table.specs.Load.{line_as}
 use Rattle.table.specs.Grammar.{Token, BlankLine, CharmapLine, EndLine, MappingLine, UnbuiltMapping}
 use Rattle.table.proofs.Tokens.{drop⇒byte_of, drop⇒ends_at, Token⇒skip_at, Closes⇒ends_at, ends_at⇒Closes}
@@ -35,7 +35,7 @@ mapping-means s (mapping u c d) m = m
 
 -- whatever is read is of the grammar
 pub form-written : (s : List ℕ) → FormMeans s (body_line_of s)
-unfolding body_line_of body_line_at
+unfolding body_line_of
 form-written s =
     pick-case P (ends_at s (skip_at s 0)) _ _ (ends_at⇒Closes s 0)
     (λ _. pick-case P (eqb (byte_of s (skip_at s 0)) 60) _ _ (λ _. mapping-means s (mapping_form s (unicode_at s (skip_at s 0))) (mapping-written s))
@@ -58,11 +58,11 @@ module _ (s w m : List ℕ) (x : ℕ) (k : Token (x ∷ w) s m) (a : eqb x 32 �
 
 -- and what is of the grammar is read
 pub blank-body : (s : List ℕ) → BlankLine s → body_line_of s ≡ blank
-unfolding body_line_of body_line_at
+unfolding body_line_of
 blank-body s b = rw (Closes⇒ends_at s 0 s refl b)
 
 pub charmap-body : (s : List ℕ) → CharmapLine s → body_line_of s ≡ reserved
-unfolding body_line_of body_line_at
+unfolding body_line_of
 charmap-body s l =
     rw (word-goes-on s (ascii "HARMAP") l.0 67 l.1 refl refl refl, word_first s (ascii "HARMAP") l.0 67 l.1 refl refl, charmap-reads s 0 s refl l)
 
@@ -71,7 +71,7 @@ unfolding is_charmap begins
 end-no-charmap s (b, m, k, g, c) = rw (Token⇒skip_at (ascii "END" ++ (b ∷ [])) s m (refl, refl) k s 0 refl)
 
 pub end_body : (s : List ℕ) → EndLine s → body_line_of s ≡ ending
-unfolding body_line_of body_line_at
+unfolding body_line_of
 end_body s l =
     let w : List ℕ = ascii "ND" ++ (l.0 ∷ []) in
     rw (word-goes-on s w l.1 69 l.2 refl refl refl, word_first s w l.1 69 l.2 refl refl, end-no-charmap s l, end_reads s 0 s refl l)
@@ -86,15 +86,15 @@ LastMeans s ending = ⊥
 LastMeans s (mapping u c d) = ⊥
 
 pub last_written : (s : List ℕ) → LastMeans s (after_end_of s)
-unfolding after_end_of after_end_at
+unfolding after_end_of
 last_written s =
     pick-case (LastMeans s) (ends_at s (skip_at s 0)) _ _ (ends_at⇒Closes s 0)
     (λ _. pick-case (LastMeans s) (is_charmap s (skip_at s 0)) _ _ (charmap-written s 0) (λ _. tt))
 
 pub blank-last : (s : List ℕ) → BlankLine s → after_end_of s ≡ blank
-unfolding after_end_of after_end_at
+unfolding after_end_of
 blank-last s b = rw (Closes⇒ends_at s 0 s refl b)
 
 pub charmap-last : (s : List ℕ) → CharmapLine s → after_end_of s ≡ reserved
-unfolding after_end_of after_end_at
+unfolding after_end_of
 charmap-last s l = rw (word-goes-on s (ascii "HARMAP") l.0 67 l.1 refl refl refl, charmap-reads s 0 s refl l)

@@ -1,6 +1,7 @@
 -- What the four look-ups answer, by the place they looked at: the line behind the stored mapping there, or nothing.
 -- code-line, code-nothing      for a code
 -- point-line, point-nothing    for a code point
+use Rattle.std.specs.Prelude.{Some, None}
 use Prim.Native.Nat.{ℕ, ◌+◌, ◌≤◌}
 use native.Mathlib.Omega.{arith}
 use mathlib.Core.Path.{◌≡◌, refl, sym, ap, ◌∙◌, subst}
@@ -31,7 +32,6 @@ use Rattle.table.specs.declared.states.Code.{Code}
 use Rattle.table.specs.declared.valid.Record.{Record}
 use Rattle.table.specs.declared.lookup.Use.TheVariants.{RoundTrip, Fallback, Substituted, ReverseFallback}
 use Rattle.table.specs.declared.lookup.Mapping.{Mapping}
-use Rattle.table.specs.declared.lookup.Found.TheVariants as found
 use Rattle.table.proofs.StoredLine.{ok-padded, padded-length}
 use Rattle.table.proofs.StoreLaws.{ok-codes, ok-infos, store-rising, code-only, point-only}
 use Rattle.table.proofs.Finding.{Reads, reads_code⇒Reads}
@@ -138,7 +138,7 @@ module _ (es : List Stored) where
       (All-In⁺ es (λ e i. writes_line e point))
 
 -- nothing is no line
-no-mapping : (A : Type 0) (m : Mapping) → found.Nothing ≡ found.Line m → A
+no-mapping : (A : Type 0) (m : Mapping) → None ≡ Some m → A
 no-mapping A m e = absurd (let z : ◌≡◌ {A = ℕ} 0 1 = cc in omega arith)
 
 module _ (rec : Record) (codes infos : List ℕ) where
@@ -173,7 +173,7 @@ module _ (rec : Record) (codes infos : List ℕ) where
 
     -- the line at a place reads it
     pub code-line : holds_at (reads_code c.bits c.len) n codes infos at ≡ true
-        → CodeFound rec codes infos c (found.Line (mapping_in here))
+        → CodeFound rec codes infos c (Some (mapping_in here))
     unfolding line_in
     code-line h =
         let w = holds_at_lem (reads_code c.bits c.len) n codes infos at h in
@@ -190,7 +190,7 @@ module _ (rec : Record) (codes infos : List ℕ) where
         any_code : Reads c.bits c.len here
             → Inside n codes infos at
             → (m : Mapping)
-            → found.Line (mapping_in here) ≡ found.Line m
+            → Some (mapping_in here) ≡ Some m
             → In m (mappings_in rec codes infos) × (is_read (as_line m) ≡ true) × (m.code ≡ c)
         any_code r w m e =
             let k : mapping_in here ≡ m = cc in
@@ -205,7 +205,7 @@ module _ (rec : Record) (codes infos : List ℕ) where
     -- the one at the place that the search gives does not
     pub code-nothing : (Rising less es → n ≤ length codes → n ≤ length infos → c.len ≤ 4
         → FirstAt (reads_code c.bits c.len) n codes infos at)
-        → holds_at (reads_code c.bits c.len) n codes infos at ≡ false → CodeFound rec codes infos c found.Nothing
+        → holds_at (reads_code c.bits c.len) n codes infos at ≡ false → CodeFound rec codes infos c None
     code-nothing first h = record {
       on-valid = λ lim states order ok. sym (unread lim states order ok (leb c.len 4) refl);
       on-any = λ m e. no-mapping (In m (mappings_in rec codes infos) × (is_read (as_line m) ≡ true) × (m.code ≡ c)) m e;
@@ -234,7 +234,7 @@ module _ (rec : Record) (codes infos : List ℕ) where
 
     -- the line at a place says what becomes of it
     pub point-line : holds_at (writes_point point) n codes infos at ≡ true
-        → PointFound rec codes infos order point (found.Line (mapping_in there))
+        → PointFound rec codes infos order point (Some (mapping_in there))
     point-line h =
         let w = holds_at_lem (writes_point point) n codes infos at h in
         record {
@@ -247,7 +247,7 @@ module _ (rec : Record) (codes infos : List ℕ) where
       where
         any-point : pick (decides_point (line_in there)) (eqb (line_in there).point point) false ≡ true
             → Inside n codes infos at
-            → (m : Mapping) → found.Line (mapping_in there) ≡ found.Line m
+            → (m : Mapping) → Some (mapping_in there) ≡ Some m
             → In m (mappings_in rec codes infos) × (decides_point (as_line m) ≡ true) × (m.point ≡ point)
         any-point r w m e =
             let k : mapping_in there ≡ m = cc in
@@ -261,7 +261,7 @@ module _ (rec : Record) (codes infos : List ℕ) where
     -- the one at the place that the search gives does not
     pub point-nothing : ((limit : ℕ) → store_ok limit n codes infos order ≡ true
         → FirstAt (writes_point point) n codes infos at)
-        → holds_at (writes_point point) n codes infos at ≡ false → PointFound rec codes infos order point found.Nothing
+        → holds_at (writes_point point) n codes infos at ≡ false → PointFound rec codes infos order point None
     point-nothing first h = record {
       on-valid = λ lim states ok.
           sym (writer-held point

@@ -10,11 +10,10 @@ use lib.ListN.{length}
 use Rattle.lists.specs.Pick.{pick}
 use Rattle.table.specs.Limits.{Limits, needed}
 use Rattle.table.specs.Slices.{Slices, Lent}
-use Rattle.table.specs.Numbers.{answer_number, n1}
+use Rattle.table.specs.Numbers.{Loaded, answer_number, n1}
 use Rattle.table.specs.Load.{Outcome, accepted, refused, Given, untouched, read, load_of, given, given_number, loaded_by, left_in}
 use Rattle.lists.proofs.Cases.{pick_no}
 use Rattle.table.specs.declared.load.Refusal.TheVariants as refusal
-use Rattle.table.specs.declared.load.Loaded.{Loaded}
 use Rattle.table.proofs.RunSteps.{given-read}
 
 pub given-loaded : (lim : Limits) (text : List ℕ) (m : Slices) (x : Outcome) → given lim text m ≡ read x → load_of lim text ≡ x
@@ -27,17 +26,17 @@ given-loaded lim text m x e = go (n1 lim (length m.states) (length m.codes) (len
     go false false e = cc
 
 -- the number of the answer
-given-number : (g : Given) (r : Loaded) → r ≡ loaded_by g → answer_number r.answer ≡ given_number g
-given-number g r e = ap (λ (l : Loaded). answer_number l.answer) e ∙ go g
+given-number : (g : Given) (r : Loaded) → r ≡ loaded_by g → answer_number r ≡ given_number g
+given-number g r e = ap answer_number e ∙ go g
   where
-    go : (g : Given) → answer_number (loaded_by g).answer ≡ given_number g
+    go : (g : Given) → answer_number (loaded_by g) ≡ given_number g
     go (untouched x) = refl
     go (read (accepted t)) = refl
     go (read (refused x k)) = refl
 
 -- the promise of `load`, by what is given
 pub promised : (lim : Limits) (g x : Given) (old new : Slices) (r : Loaded) → g ≡ x → r ≡ loaded_by x → new ≡ left_in lim x old
-    → (r ≡ loaded_by g) × (answer_number r.answer ≡ given_number g) × (new ≡ left_in lim g old)
+    → (r ≡ loaded_by g) × (answer_number r ≡ given_number g) × (new ≡ left_in lim g old)
 promised lim g x old new r e p q =
     let a : r ≡ loaded_by g = p ∙ ap loaded_by (sym e) in
     (a, given-number g r a, q ∙ ap (λ (u : Given). left_in lim u old) (sym e))

@@ -7,7 +7,7 @@
 -- Window, window-starts, window-look, window-ends, gap-inside     the place and the gap
 -- stored-key-less, stored-key-not-less, code-sides                the first order by its key
 -- below-point, not-below-point, point-sides       the second order by code points, for a code point's first line
--- OrderWindow, order-sides, order-look            the whole second order
+-- side, order-sides, order-parts, OrderWindow, order-look                  the whole second order
 use Prim.Native.Nat.{ℕ, zero, suc, ◌+◌, ◌-◌, ◌*◌, ◌/◌, ◌%◌, ◌^◌, ◌<◌, ◌≤◌}
 use native.Mathlib.Nat.{pow-suc, pow-zero, lt_of_le_of_lt}
 use native.Mathlib.Omega.{arith}
@@ -26,7 +26,7 @@ use Rattle.lists.proofs.Laws.{clash, ¬true⇒false}
 use Rattle.lists.proofs.Order.{All-get_d⁻, by_key-<}
 use Rattle.table.specs.Stored.{Stored, mk, point_in, rank_in, order_key_in, order_key, less, point_less}
 use Rattle.table.specs.Memory.{stored_list, stored_at}
-use Rattle.table.specs.loops.Search.{stored_key, far, KeyGap, GapAt, point_seen, Power, WindowOf, after_look, place_in, point_place_in, picked}
+use Rattle.table.specs.loops.Search.{stored_key, far, KeyGap, GapAt, point_seen, Power, WindowOf, after_look, Parts, place_in, point_place_in, picked}
 use Rattle.table.specs.declared.store.Spot.{Spot}
 use Rattle.table.specs.Looks.{looks_for}
 use Rattle.table.proofs.Looks.{looks-less, looks-window}
@@ -103,6 +103,15 @@ among-look base size at next half place true l w before behind =
 among-look base size at next half place false l w before behind =
     let p = behind refl in
     (omega (arith, w.0), omega (arith, l.below))
+
+pub look-inside : (n : ℕ) (s r : Spot) (k q size at next half : ℕ) → r ≡ after_look k q s next
+    → Look s.at size at next half → at < n → s.at + size ≤ n + 1 → r.at + half ≤ n + 1
+look-inside n s r k q size at next half e l h w =
+    subst (λ (x : Spot). x.at + half ≤ n + 1) (sym e) (go (ltb k q))
+  where
+    go : (t : Bool) → let x : Spot = pick t (record { at = next; gap = s.gap }) (record { at = s.at; gap = k - q }) in x.at + half ≤ n + 1
+    go true = omega (arith, l.above)
+    go false = omega (arith, l.below)
 
 -- ## The place and the gap
 -- the lines' keys, the one that is sought, and what the place is known by
@@ -269,14 +278,15 @@ module _ (infos order : List ℕ) (point : ℕ) (small : point < 2097152) where
 
 -- in the whole second order, with no gap
 module _ (codes infos order : List ℕ) (e : Stored) where
-  abbrev pub OrderWindow : ℕ → ℕ → Type 0
-  OrderWindow base size =
-      (base + size ≤ length order + 1)
-      × (All (λ k. k < length codes) order → Rising point_less (picked codes infos order)
-      → Among base size (point_place_in e (picked codes infos order)))
+  abbrev pub is_before : ℕ → Bool
+  is_before at = ltb (get_or order at 0) (length codes) and point_less (stored_at codes infos (get_or order at 0)) e
+
+  -- the key of a place: 0 if its line comes before e
+  abbrev pub side : ℕ → ℕ
+  side at = pick (is_before at) 0 1
 
   pub order-sides : (at : ℕ) (t : Bool)
-      → t ≡ (ltb (get_or order at 0) (length codes) and point_less (stored_at codes infos (get_or order at 0)) e)
+      → t ≡ is_before at
       → at < length order → All (λ k. k < length codes) order → Rising point_less (picked codes infos order)
       → (t ≡ true → at < point_place_in e (picked codes infos order))
       × (t ≡ false → point_place_in e (picked codes infos order) ≤ at)
@@ -288,8 +298,24 @@ module _ (codes infos order : List ℕ) (e : Stored) where
         λ y. point-no codes infos order e at h (sym tested ∙ y),
       )
 
-  pub order-look : (base size at next half r : ℕ) (t : Bool) → r ≡ pick t next base
-      → t ≡ (ltb (get_or order at 0) (length codes) and point_less (stored_at codes infos (get_or order at 0)) e)
+  pub order-parts : All (λ k. k < length codes) order → Rising point_less (picked codes infos order)
+      → Parts side 1 (length order) (point_place_in e (picked codes infos order))
+  order-parts q p = (point-le codes infos order e, λ at h. go at (is_before at) (order-sides at (is_before at) refl h q p))
+    where
+      go : (at : ℕ) (t : Bool)
+          → (t ≡ true → at < point_place_in e (picked codes infos order)) × (t ≡ false → point_place_in e (picked codes infos order) ≤ at)
+          → (pick t 0 1 < 1 → at < point_place_in e (picked codes infos order)) × (1 ≤ pick t 0 1 → point_place_in e (picked codes infos order) ≤ at)
+      go at true w = (λ _. w.0 refl, λ l. absurd (omega arith))
+      go at false w = (λ l. absurd (omega arith), λ _. w.1 refl)
+
+  -- the same with no key, a look at a time
+  abbrev pub OrderWindow : ℕ → ℕ → Type 0
+  OrderWindow base size =
+      (base + size ≤ length order + 1)
+      × (All (λ k. k < length codes) order → Rising point_less (picked codes infos order)
+      → Among base size (point_place_in e (picked codes infos order)))
+
+  pub order-look : (base size at next half r : ℕ) (t : Bool) → r ≡ pick t next base → t ≡ is_before at
       → Look base size at next half → at < length order → OrderWindow base size → OrderWindow r half
   order-look base size at next half r t moved is l h w =
       subst (λ (b : ℕ). OrderWindow b half) (sym moved) (

@@ -1,4 +1,7 @@
 -- Lines before CHARMAP, computed: those of table K, and hard ones.
+use Rattle.table.specs.declared.value.Class.TheVariants.{Mbcs}
+use Rattle.std.specs.Prelude.{Some, None}
+use Rattle.table.specs.Header.{ReadLine}
 use mathlib.Core.Path.{◌≡◌, refl}
 use mathlib.Core.Bool.{true, false}
 use mathlib.Core.List.{List, [], ◌∷◌, ◌++◌, map}
@@ -6,17 +9,16 @@ use Prim.Native.Nat.{ℕ}
 use lib.ListN.{get_or}
 use Rattle.lists.specs.Ascii.{ascii}
 use Rattle.table.specs.Cells.{Cell, illegal, ends, ends_any, leads}
-use Rattle.table.specs.declared.header.HeaderLine.{HeaderLine}
-use Rattle.table.specs.declared.header.HeaderLine.TheVariants.{NoForm, Blank, Charmap, Known}
+use Rattle.table.specs.declared.header.HeaderLine.TheVariants.{Blank, Charmap, Known}
 use Rattle.table.specs.Text.{digit_of, skip_of, ends_at, flipped, foreign, content_end, quote_end, number_at, byte_at, join_at, bytes_more, bytes_at, is_charmap}
 use Rattle.lists.specs.Strings.{begins, same}
-use Rattle.table.specs.Row.{to_at, next_at, letter_at, end_at, entry_sep, entry_end, entry_next, entry_to, entry_from, entry_at, entries_go, well_go, entries_at, well_at, unbuilt_entry, over_entry, meaning, overwritten, comma_at, open_at, entries_from, entries_of, row_of}
+use Rattle.table.specs.Row.{to_at, next_at, letter_at, end_at, entry_sep, entry_at, entries_go, well_go, entries_at, well_at, unbuilt_entry, over_entry, meaning, overwritten, comma_at, open_at, entries_from, entries_of, row_of}
 use Rattle.lists.specs.Place.{fill_range}
 use Rattle.table.specs.Header.{key_byte, key_end, key_of, quoted_from, quoted_of, name_in, class_name, class_in, digit_in, min_in, max_in, sub_in, sub1_value, row_from, row_in, value_of, key_line, keyed_line, header_line_at, header_line_of}
 use Rattle.lists.specs.Tests.{any_of}
 use Rattle.table.specs.Codes.{packed}
 use Rattle.table.specs.declared.value.Key.TheVariants.{CodeSetName, CurMin, CurMax, ConvClass, SubChar, SubChar1, State, Base, Other}
-use Rattle.table.specs.declared.value.Value.TheVariants.{Unfit, Any, Unbuilt, Name, Min, Max, Class, Sub, Sub1, Row}
+use Rattle.table.specs.declared.value.Value.TheVariants.{Any, Unbuilt, Name, Min, Max, Class, Sub, Sub1, Row}
 
 abbrev texts : List (List ℕ)
 texts =
@@ -49,40 +51,40 @@ texts =
     ascii "  # x" ∷
     []
 
-abbrev kinds : List HeaderLine
+abbrev kinds : List ReadLine
 kinds =
-    Known CodeSetName Name 15 26 ∷
-    Known CurMin (Min 1) 12 14 ∷
-    Known CurMax (Max 2) 12 14 ∷
-    Known ConvClass (Class 2) 13 20 ∷
-    Known SubChar (Sub 0x3f000000 1) 9 14 ∷
-    Known State (Row 0 false false) 11 32 ∷
-    Known State (Row 0 false false) 11 23 ∷
-    Known ConvClass (Class 2) 13 19 ∷
-    Known ConvClass Unbuilt 13 20 ∷
-    Known SubChar Unfit 9 19 ∷
-    Known SubChar1 (Sub1 26) 10 14 ∷
-    Known State (Row 1 true false) 11 27 ∷
-    Known State (Row 0 false true) 11 17 ∷
-    Known State (Row 0 true true) 11 18 ∷
-    Known State Unfit 11 18 ∷
-    Known State (Row 0 false false) 11 11 ∷
-    Known State Unfit 11 14 ∷
-    Known Base Unbuilt 10 14 ∷
-    NoForm ∷
-    Known Other Any 5 6 ∷
-    Known Other Any 7 13 ∷
-    NoForm ∷
-    Known CodeSetName Name 15 18 ∷
-    Known CodeSetName Unfit 15 17 ∷
-    Charmap ∷
-    NoForm ∷
-    Blank ∷
+    Some (Known CodeSetName (Some Name) 15 26) ∷
+    Some (Known CurMin (Some (Min 1)) 12 14) ∷
+    Some (Known CurMax (Some (Max 2)) 12 14) ∷
+    Some (Known ConvClass (Some (Class Mbcs)) 13 20) ∷
+    Some (Known SubChar (Some (Sub (record { bits = 0x3f000000; len = 1 }))) 9 14) ∷
+    Some (Known State (Some (Row 0 false false)) 11 32) ∷
+    Some (Known State (Some (Row 0 false false)) 11 23) ∷
+    Some (Known ConvClass (Some (Class Mbcs)) 13 19) ∷
+    Some (Known ConvClass (Some Unbuilt) 13 20) ∷
+    Some (Known SubChar None 9 19) ∷
+    Some (Known SubChar1 (Some (Sub1 26)) 10 14) ∷
+    Some (Known State (Some (Row 1 true false)) 11 27) ∷
+    Some (Known State (Some (Row 0 false true)) 11 17) ∷
+    Some (Known State (Some (Row 0 true true)) 11 18) ∷
+    Some (Known State None 11 18) ∷
+    Some (Known State (Some (Row 0 false false)) 11 11) ∷
+    Some (Known State None 11 14) ∷
+    Some (Known Base (Some Unbuilt) 10 14) ∷
+    None ∷
+    Some (Known Other (Some Any) 5 6) ∷
+    Some (Known Other (Some Any) 7 13) ∷
+    None ∷
+    Some (Known CodeSetName (Some Name) 15 18) ∷
+    Some (Known CodeSetName None 15 17) ∷
+    Some Charmap ∷
+    None ∷
+    Some Blank ∷
     []
 
 -- what each line is
 pub lines-read : map header_line_of texts ≡ kinds
-unfolding packed same any_of digit_of skip_of begins ends_at flipped foreign content_end quote_end number_at byte_at join_at bytes_more bytes_at is_charmap to_at next_at letter_at end_at entry_sep entry_end entry_next entry_to entry_from entry_at entries_go well_go entries_at well_at unbuilt_entry over_entry comma_at open_at key_byte key_end key_of quoted_from quoted_of name_in class_name class_in digit_in min_in max_in sub_in sub1_value row_from row_in value_of key_line keyed_line header_line_at header_line_of
+unfolding packed same any_of digit_of skip_of begins ends_at flipped foreign content_end quote_end number_at byte_at join_at bytes_more bytes_at is_charmap to_at next_at letter_at end_at entry_sep entry_at entries_go well_go entries_at well_at unbuilt_entry over_entry comma_at open_at key_byte key_end key_of quoted_from quoted_of name_in class_name class_in digit_in min_in max_in sub_in sub1_value row_from row_in value_of key_line keyed_line header_line_at header_line_of
 lines-read = refl
 
 -- ` 30-33, 31:1, 32.i`: later entries overwrite earlier, and bytes not named are illegal
@@ -90,5 +92,5 @@ abbrev overlapping : List Cell
 overlapping = row_of (entries_of (ascii " 30-33, 31:1, 32.i"))
 
 pub row_read : map (λ i. get_or overlapping i ends_any) (47 ∷ 48 ∷ 49 ∷ 50 ∷ 51 ∷ 52 ∷ []) ≡ (illegal ∷ ends ∷ leads 1 ∷ illegal ∷ ends ∷ illegal ∷ [])
-unfolding digit_of skip_of begins number_at to_at next_at letter_at end_at entry_sep entry_end entry_next entry_to entry_from entry_at entries_go entries_at comma_at open_at entries_from entries_of row_of overwritten fill_range meaning
+unfolding digit_of skip_of begins number_at to_at next_at letter_at end_at entry_sep entry_at entries_go entries_at comma_at open_at entries_from entries_of row_of overwritten fill_range meaning
 row_read = refl

@@ -1,4 +1,6 @@
 -- Lines before CHARMAP: a line of the grammar is read as its key and value, as blank or as CHARMAP, and what is read is such a line.
+use Rattle.table.specs.Header.{ReadLine}
+use Rattle.std.specs.Prelude.{Option, Some, None}
 use Prim.Native.Nat.{ℕ, ◌+◌, ◌-◌}
 use mathlib.Core.Path.{◌≡◌, refl, sym, ap, ◌∙◌, subst}
 use mathlib.Core.Logic.{inl, inr}
@@ -17,10 +19,7 @@ use Rattle.lists.proofs.Parts.{+-suc-right, take-drop-++, drop-suc-++, drop-+}
 use Rattle.table.specs.Text.{byte_of, skip_at, ends_at, flipped, foreign, content_end, is_charmap}
 use Rattle.table.specs.Header.{key_byte, key_end, key_of, value_of, key_line, keyed_line, header_line_at, header_line_of}
 use Rattle.table.specs.Grammar.{Token, BlankLine, CharmapLine, KeyByte, Outside, Content, Pair, KeyLine}
-use Rattle.table.specs.declared.text.Place.{Place}
-use Rattle.table.specs.declared.text.Place.TheVariants.{At, No}
-use Rattle.table.specs.declared.header.HeaderLine.{HeaderLine}
-use Rattle.table.specs.declared.header.HeaderLine.TheVariants.{NoForm, Blank, Charmap, Known}
+use Rattle.table.specs.declared.header.HeaderLine.TheVariants.{Blank, Charmap, Known}
 use Rattle.table.proofs.Tokens.{drop⇒byte_of, at_byte, drop⇒ends_at, Token⇒skip_at, drop⇒Token, Closes⇒ends_at, ends_at⇒Closes}
 use Rattle.table.proofs.WordLines.{charmap-reads, charmap-written}
 
@@ -31,13 +30,13 @@ unfolding key_byte
 key-yes b k =
     rw (le-ltb b 33 k.from, lt-leb 127 b k.to, ne_eqb b 60 k.no-open, ne_eqb b 62 k.no-close, ne_eqb b 35 k.no-hash)
 
-key_reads : (at : ℕ) (key r : List ℕ) → All KeyByte key → key_end at (key ++ (62 ∷ r)) ≡ At (at + length key)
+key_reads : (at : ℕ) (key r : List ℕ) → All KeyByte key → key_end at (key ++ (62 ∷ r)) ≡ Some (at + length key)
 unfolding key_end
 key_reads at [] r a = rw (add-zero at)
 key_reads at (b ∷ key) r a = rw (ne_eqb b 62 a.0.no-close, key-yes b a.0, +-suc-right at (length key)) (key_reads (at + 1) key r a.1)
 
 -- content ends behind the value
-content-reads : (q : Bool) (at : ℕ) (v r : List ℕ) → Content q v r → content_end q at (v ++ r) ≡ At (at + length v)
+content-reads : (q : Bool) (at : ℕ) (v r : List ℕ) → Content q v r → content_end q at (v ++ r) ≡ Some (at + length v)
 unfolding content_end flipped foreign
 content-reads true at [] r c = rw (c, add-zero at)
 content-reads false at [] r (inl c) = rw (c, add-zero at)
@@ -49,9 +48,9 @@ content-reads false at (b ∷ v) r (inr (o, c)) =
     rw (ne_eqb b 35 o.no-hash, ne_eqb b 13 o.no-cr, lt-leb 128 b o.low, ne_eqb b 34 o.no-quote, +-suc-right at (length v))
     (content-reads false (at + 1) v r c)
 
-known_at : (s : List ℕ) (p e z : ℕ) (key v : List ℕ) → ends_at s p ≡ false → byte_of s p ≡ 60 → key_end (p + 1) (drop (p + 1) s) ≡ At e
-    → eqb (p + 1) e ≡ false → take (e - (p + 1)) (drop (p + 1) s) ≡ key → content_end false (e + 1) (drop (e + 1) s) ≡ At z
-    → take (z - (e + 1)) (drop (e + 1) s) ≡ v → header_line_at s p ≡ Known (key_of key) (value_of (key_of key) v) (e + 1) z
+known_at : (s : List ℕ) (p e z : ℕ) (key v : List ℕ) → ends_at s p ≡ false → byte_of s p ≡ 60 → key_end (p + 1) (drop (p + 1) s) ≡ Some e
+    → eqb (p + 1) e ≡ false → take (e - (p + 1)) (drop (p + 1) s) ≡ key → content_end false (e + 1) (drop (e + 1) s) ≡ Some z
+    → take (z - (e + 1)) (drop (e + 1) s) ≡ v → header_line_at s p ≡ Some (Known (key_of key) (value_of (key_of key) v) (e + 1) z)
 unfolding header_line_at keyed_line key_line
 known_at s p e z key v a b c d f g i = rw (a, b, c, d, f, g, i)
 
@@ -59,7 +58,7 @@ known_at s p e z key v a b c d f g i = rw (a, b, c, d, f, g, i)
 pub record KeyLineRead (p : Pair) (s : List ℕ) : Type 0 where
   pub from : ℕ
   pub to : ℕ
-  pub line : header_line_of s ≡ Known (key_of p.key) (value_of (key_of p.key) p.value) from to
+  pub line : header_line_of s ≡ Some (Known (key_of p.key) (value_of (key_of p.key) p.value) from to)
   pub part : take (to - from) (drop from s) ≡ p.value
 
 pub key-line-reads : (p : Pair) (s : List ℕ) → KeyLine p s → KeyLineRead p s
@@ -86,11 +85,11 @@ key-line-reads p s l =
       part = i;
     }
 
-pub blank-line-reads : (s : List ℕ) → BlankLine s → header_line_of s ≡ Blank
+pub blank-line-reads : (s : List ℕ) → BlankLine s → header_line_of s ≡ Some Blank
 unfolding header_line_of header_line_at
 blank-line-reads s c = rw (Closes⇒ends_at s 0 s refl c)
 
-pub charmap-line-reads : (s : List ℕ) → CharmapLine s → header_line_of s ≡ Charmap
+pub charmap-line-reads : (s : List ℕ) → CharmapLine s → header_line_of s ≡ Some Charmap
 unfolding header_line_of header_line_at
 charmap-line-reads s c =
     let p : ℕ = skip_at s 0 in
@@ -126,13 +125,13 @@ record Keyed (at e : ℕ) (l : List ℕ) : Type 0 where
   place : e ≡ at + length key
   whole : l ≡ key ++ (62 ∷ rest)
 
-abbrev KeyedOf : ℕ → List ℕ → Place → Type 0
-KeyedOf at l No = Unit {0}
-KeyedOf at l (At e) = Keyed at e l
+abbrev KeyedOf : ℕ → List ℕ → Option ℕ → Type 0
+KeyedOf at l None = Unit {0}
+KeyedOf at l (Some e) = Keyed at e l
 
-keyed-more : (at b : ℕ) (l : List ℕ) (x : Place) → KeyByte b → KeyedOf (at + 1) l x → KeyedOf at (b ∷ l) x
-keyed-more at b l No k h = tt
-keyed-more at b l (At e) k h =
+keyed-more : (at b : ℕ) (l : List ℕ) (x : Option ℕ) → KeyByte b → KeyedOf (at + 1) l x → KeyedOf at (b ∷ l) x
+keyed-more at b l None k h = tt
+keyed-more at b l (Some e) k h =
     record {
       key = b ∷ h.key;
       rest = h.rest;
@@ -149,7 +148,7 @@ key-written at (b ∷ l) =
     (λ e. record { key = []; rest = l; bytes = tt; place = omega arith; whole = ap (λ (x : ℕ). x ∷ l) (eqb-true b 62 e) })
     (λ _. pick-case P (key_byte b) _ _ (λ k. keyed-more at b l (key_end (at + 1) l) (key-of b k) (key-written (at + 1) l)) (λ _. tt))
   where
-    P : Place → Type 0
+    P : Option ℕ → Type 0
     P x = KeyedOf at (b ∷ l) x
 
 -- content from a place on, up to e; q: its first byte stands inside quotes
@@ -160,15 +159,15 @@ record Valued (q : Bool) (at e : ℕ) (l : List ℕ) : Type 0 where
   place : e ≡ at + length value
   whole : l ≡ value ++ tail
 
-abbrev ValuedOf : Bool → ℕ → List ℕ → Place → Type 0
-ValuedOf q at l No = Unit {0}
-ValuedOf q at l (At e) = Valued q at e l
+abbrev ValuedOf : Bool → ℕ → List ℕ → Option ℕ → Type 0
+ValuedOf q at l None = Unit {0}
+ValuedOf q at l (Some e) = Valued q at e l
 
 -- one byte more; q, d: it stands inside quotes, the next one does
-valued-more : (q d : Bool) (at b : ℕ) (l : List ℕ) (x : Place) → ((v r : List ℕ) → Content d v r → Content q (b ∷ v) r)
+valued-more : (q d : Bool) (at b : ℕ) (l : List ℕ) (x : Option ℕ) → ((v r : List ℕ) → Content d v r → Content q (b ∷ v) r)
     → ValuedOf d (at + 1) l x → ValuedOf q at (b ∷ l) x
-valued-more q d at b l No f h = tt
-valued-more q d at b l (At e) f h =
+valued-more q d at b l None f h = tt
+valued-more q d at b l (Some e) f h =
     record {
       value = b ∷ h.value;
       tail = h.tail;
@@ -200,24 +199,24 @@ content-written false at (b ∷ l) =
     (λ n. valued-more false false at b l (content_end false (at + 1) l) (λ v r c. inr (outside_of b e f n, c))
     (content-written false (at + 1) l))))
   where
-    P : Place → Type 0
+    P : Option ℕ → Type 0
     P x = ValuedOf false at (b ∷ l) x
 
 -- what the reader's answer says of a line
-abbrev pub LineMeans : List ℕ → HeaderLine → Type 0
-LineMeans s NoForm = Unit {0}
-LineMeans s Blank = BlankLine s
-LineMeans s Charmap = CharmapLine s
-LineMeans s (Known k v q e) =
+abbrev pub LineMeans : List ℕ → ReadLine → Type 0
+LineMeans s None = Unit {0}
+LineMeans s (Some Blank) = BlankLine s
+LineMeans s (Some Charmap) = CharmapLine s
+LineMeans s (Some (Known k v q e)) =
     (p : Pair) × KeyLine p s × (k ≡ key_of p.key) × (v ≡ value_of k p.value) × (take (e - q) (drop q s) ≡ p.value)
 
 -- at: where a key stands, behind `<`
 module _ (s : List ℕ) (at : ℕ) (opens : drop (skip_at s 0) s ≡ 60 ∷ drop at s) where
-  value_line : (e : ℕ) (y : Place) → Keyed at e (drop at s) → (at ≡ e → ⊥) → ValuedOf false (e + 1) (drop (e + 1) s) y
+  value_line : (e : ℕ) (y : Option ℕ) → Keyed at e (drop at s) → (at ≡ e → ⊥) → ValuedOf false (e + 1) (drop (e + 1) s) y
       → LineMeans s (key_line s (key_of (take (e - at) (drop at s))) (e + 1) y)
   unfolding key_line
-  value_line e No h n v = tt
-  value_line e (At z) h n v =
+  value_line e None h n v = tt
+  value_line e (Some z) h n v =
       let key : List ℕ = h.key in
       let p : Pair = record { key = key; value = v.value } in
       let w : List ℕ = ascii "<" ++ (key ++ ascii ">") in
@@ -236,11 +235,11 @@ module _ (s : List ℕ) (at : ℕ) (opens : drop (skip_at s 0) s ≡ 60 ∷ drop
       } in
       (p, l, ap key_of kk, ap (value_of (key_of (take (e - at) (drop at s)))) vv, vv)
 
-  key-line : (x : Place) → KeyedOf at (drop at s) x → LineMeans s (keyed_line s at x)
+  key-line : (x : Option ℕ) → KeyedOf at (drop at s) x → LineMeans s (keyed_line s at x)
   unfolding keyed_line
-  key-line No h = tt
-  key-line (At e) h =
-      pick-case (λ (l : HeaderLine). LineMeans s l) (eqb at e) _ _ (λ _. tt)
+  key-line None h = tt
+  key-line (Some e) h =
+      pick-case (λ (l : ReadLine). LineMeans s l) (eqb at e) _ _ (λ _. tt)
       (λ n. value_line e (content_end false (e + 1) (drop (e + 1) s)) h (eqb-false at e n) (content-written false (e + 1) (drop (e + 1) s)))
 
 pub line-written : (s : List ℕ) → LineMeans s (header_line_of s)
@@ -253,5 +252,5 @@ line-written s =
     (key_end at (drop at s)) (key-written at (drop at s)))
     (λ _. pick-case P (is_charmap s (skip_at s 0)) _ _ (λ e. charmap-written s 0 e) (λ _. tt)))
   where
-    P : HeaderLine → Type 0
+    P : ReadLine → Type 0
     P l = LineMeans s l

@@ -1,4 +1,6 @@
 -- Before CHARMAP: what a key's line and the line CHARMAP leave in memory, and 16 by what is in memory.
+use Rattle.table.specs.Header.{ReadValue}
+use Rattle.std.specs.Prelude.{Ok, Err}
 use Prim.Native.Nat.{ℕ, ◌+◌, ◌-◌, ◌*◌, ◌<◌, ◌≤◌}
 use mathlib.Core.Path.{◌≡◌, refl, sym, ap, subst, ◌∙◌}
 use mathlib.Core.Bool.{Bool, true, false, not}
@@ -27,12 +29,11 @@ use Rattle.table.specs.Row.{entries_of, row_of}
 use Rattle.table.specs.Header.{is_row}
 use Rattle.table.specs.Numbers.{lowest, n13, n16, rows_at, key_conditions, charmap_conditions}
 use Rattle.table.specs.Load.{judged, reading, keep_value, keep_row}
-use Rattle.table.specs.loops.Progress.{keys_in, head_of, head_at, ProperHead, Holding, StepTaken, progress}
+use Rattle.table.specs.loops.Progress.{keys_in, head_of, head_at, ProperHead, Holding, StepTaken}
 use Rattle.table.specs.declared.header.Head.{Head}
 use Rattle.table.specs.declared.load.Refusal.TheVariants as refusal
-use Rattle.table.specs.declared.load.Verdict.TheVariants.{Fine, Refuse}
+use Rattle.table.specs.declared.load.Phase.{Phase}
 use Rattle.table.specs.declared.load.Phase.TheVariants.{Header, Mappings}
-use Rattle.table.specs.declared.load.LineOutcome.TheVariants as outcome
 use Rattle.table.proofs.RowLaws.{all_of-state_ok, length-numbers, steps-filled}
 use Rattle.table.proofs.Depth.{states-test}
 use Rattle.lists.proofs.Filled.{fill-put, filled-take, filled-zeros}
@@ -44,7 +45,6 @@ use Rattle.lists.specs.Place.{filled}
 use Rattle.table.specs.loops.Coded.{put_row}
 use Rattle.table.specs.loops.Ranges.{InRange}
 use Rattle.table.specs.declared.value.Key.{Key}
-use Rattle.table.specs.declared.value.Value.{Value}
 
 -- the header with another count of rows
 pub head_rows : (h : Head) (rows : List (List Cell)) → ProperHead h → ProperHead (head_at h rows)
@@ -69,7 +69,7 @@ row-beyond lim r row s h e k =
     ∙ drop-++-drop (needed lim) (r * 256 + 256) (take (r * 256) s ++ row) s n (omega arith)
 
 -- the conditions of a key's line, by the count of rows in the struct
-pub key-count : (lim : Limits) (h : Head) (rows : List (List Cell)) → h.rows ≡ length rows → (k : Key) (v : Value)
+pub key-count : (lim : Limits) (h : Head) (rows : List (List Cell)) → h.rows ≡ length rows → (k : Key) (v : ReadValue)
     → lowest (key_conditions lim (keys_in h) (length rows) k v) ≡ lowest (key_conditions lim (keys_in h) h.rows k v)
 key-count lim h rows e k v = ap (λ (n : ℕ). lowest (key_conditions lim (keys_in h) n k v)) (sym e)
 
@@ -135,7 +135,7 @@ module _ (lim : Limits) (h : Head) (rows : List (List Cell)) (s c i o : List ℕ
       none (r ∷ rs) e = absurd (omega arith)
 
   -- a key's line
-  key-holds : (k : Key) (v : Value) (t s' : List ℕ) → lowest (key_conditions lim (keys_in h) h.rows k v) ≡ Fine → InRange v → s' ≡ pick (is_row v) (put_row h.rows (map cell_number (row_of (entries_of t))) s) s
+  key-holds : (k : Key) (v : ReadValue) (t s' : List ℕ) → lowest (key_conditions lim (keys_in h) h.rows k v) ≡ Ok tt → InRange v → s' ≡ pick (is_row v) (put_row h.rows (map cell_number (row_of (entries_of t))) s) s
       → Holding lim (keep_in h v) 0 (keep_row v t rows) [] (slices s' c i o)
   unfolding keep_row
   key-holds k v t s' fine in-range q = go (is_row v) refl
@@ -155,16 +155,19 @@ module _ (lim : Limits) (h : Head) (rows : List (List Cell)) (s c i o : List ℕ
           (subst (λ (rs : List (List Cell)). Holding lim (keep_in h v) 0 rs [] (slices s c i o)) b
           (head-holds (keep_in h v) (keep-proper h v in-range held.head-proper) (keep-count h v ∙ pick_no (is_row v) (h.rows + 1) h.rows e)))
 
-  pub key-taken : (k : Key) (v : Value) (t s' : List ℕ) (g : Head) → lowest (key_conditions lim (keys_in h) h.rows k v) ≡ Fine → InRange v → g ≡ head_of (keep_value (keys_in h) v) (pick (is_row v) (h.rows + 1) h.rows)
+  pub key-taken : (k : Key) (v : ReadValue) (t s' : List ℕ) (g : Head) (p : Phase) (n : ℕ) → lowest (key_conditions lim (keys_in h) h.rows k v) ≡ Ok tt → InRange v → p ≡ Header → n ≡ 0 → g ≡ head_of (keep_value (keys_in h) v) (pick (is_row v) (h.rows + 1) h.rows)
       → s' ≡ pick (is_row v) (put_row h.rows (map cell_number (row_of (entries_of t))) s) s
       → StepTaken lim (judged (lowest (key_conditions lim (keys_in h) (length rows) k v)) (reading Header (keep_value (keys_in h) v) (keep_row v t rows) []))
-      (outcome.On (progress Header g 0)) (slices s' c i o)
-  key-taken k v t s' g fine in-range e q =
-      fine-taken lim (lowest (key_conditions lim (keys_in h) (length rows) k v)) (reading Header (keep_value (keys_in h) v) (keep_row v t rows) []) (keep_in h v) (progress Header g 0)
-      (slices s' c i o) (key-count lim h rows held.rows-count k v ∙ fine) (ap (λ (x : Head). progress Header x 0) (e ∙ sym (kept-head h v in-range held.head-proper))) (kept-keys h v in-range) (key-holds k v t s' fine in-range q)
+      (Ok tt) p g n (slices s' c i o)
+  key-taken k v t s' g p n fine in-range ep en e q =
+      let at : keep_in h v ≡ g = kept-head h v in-range held.head-proper ∙ sym e in
+      subst (λ (m : ℕ). StepTaken lim (judged (lowest (key_conditions lim (keys_in h) (length rows) k v)) (reading Header (keep_value (keys_in h) v) (keep_row v t rows) [])) (Ok tt) p g m (slices s' c i o)) (sym en)
+      (fine-taken lim (lowest (key_conditions lim (keys_in h) (length rows) k v)) (reading Header (keep_value (keys_in h) v) (keep_row v t rows) []) p g 0
+      (slices s' c i o) (key-count lim h rows held.rows-count k v ∙ fine) ep (ap keys_in (sym at) ∙ kept-keys h v in-range)
+      (subst (λ (x : Head). Holding lim x 0 (keep_row v t rows) [] (slices s' c i o)) at (key-holds k v t s' fine in-range q)))
 
 -- and what is past the needed places stays
-pub key-beyond : (lim : Limits) (h : Head) (k : Key) (v : Value) (t s s' : List ℕ) → lowest (key_conditions lim (keys_in h) h.rows k v) ≡ Fine → needed lim ≤ length s → s' ≡ pick (is_row v) (put_row h.rows (map cell_number (row_of (entries_of t))) s) s
+pub key-beyond : (lim : Limits) (h : Head) (k : Key) (v : ReadValue) (t s s' : List ℕ) → lowest (key_conditions lim (keys_in h) h.rows k v) ≡ Ok tt → needed lim ≤ length s → s' ≡ pick (is_row v) (put_row h.rows (map cell_number (row_of (entries_of t))) s) s
     → drop (needed lim) s' ≡ drop (needed lim) s
 key-beyond lim h k v t s s' fine long q = go (is_row v) refl
   where
@@ -236,29 +239,24 @@ module _ (lim : Limits) (h : Head) (rows : List (List Cell)) (s c i o : List ℕ
       (pick (pick (states-held t) (t3 (same t) h.max) false)
       (pick (t4_sub (same t) (bytes_of h.sub)) (t4_sub1 (same t) (sub1_in h.sub1)) false) false) false)
 
-absent-is : (h : Head) → n13 (keys_in h) h.rows ≡ pick h.name (pick (eqb h.min 0) true (pick (eqb h.max 0) true (pick (eqb h.class 0) true (pick (eqb h.sub.len 0) true (pick (eqb h.class 1) false (eqb h.rows 0)))))) true
-absent-is h =
+pub absent_is : (h : Head) → n13 (keys_in h) h.rows ≡ pick h.name (pick (eqb h.min 0) true (pick (eqb h.max 0) true (pick (eqb h.class 0) true (pick (eqb h.sub.len 0) true (pick (eqb h.class 1) false (eqb h.rows 0)))))) true
+absent_is h =
     absent_by h
     ∙ ap (λ (b : Bool). pick h.name b true) (ltb-0-implies h.min _
     ∙ ap (λ (b : Bool). pick (eqb h.min 0) true b) (ltb-0-implies h.max _
     ∙ ap (λ (b : Bool). pick (eqb h.max 0) true b) (ltb-0-implies h.class _
     ∙ ap (λ (b : Bool). pick (eqb h.class 0) true b) (ltb-0-implies h.sub.len _))))
 
-pub absent-as : (h : Head) (r : Bool)
-    → r ≡ pick h.name (pick (eqb h.min 0) true (pick (eqb h.max 0) true (pick (eqb h.class 0) true (pick (eqb h.sub.len 0) true (pick (eqb h.class 1) false (eqb h.rows 0)))))) true
-    → r ≡ n13 (keys_in h) h.rows
-absent-as h r e = e ∙ sym (absent-is h)
-
 -- the line CHARMAP, condition by condition
 charmap-verdict : (h : Head) (rows : List (List Cell)) → h.rows ≡ length rows
     → lowest (charmap_conditions (keys_in h) rows)
-    ≡ pick (n13 (keys_in h) h.rows) (Refuse refusal.KeyAbsent) (pick (n16 (keys_in h) (rows_at (keys_in h) rows)) (Refuse refusal.StatesBroken) Fine)
+    ≡ pick (n13 (keys_in h) h.rows) (Err refusal.KeyAbsent) (pick (n16 (keys_in h) (rows_at (keys_in h) rows)) (Err refusal.StatesBroken) (Ok tt))
 unfolding lowest charmap_conditions
 charmap-verdict h rows e =
-    ap (λ (n : ℕ). pick (n13 (keys_in h) n) (Refuse refusal.KeyAbsent) (pick (n16 (keys_in h) (rows_at (keys_in h) rows)) (Refuse refusal.StatesBroken) Fine)) (sym e)
+    ap (λ (n : ℕ). pick (n13 (keys_in h) n) (Err refusal.KeyAbsent) (pick (n16 (keys_in h) (rows_at (keys_in h) rows)) (Err refusal.StatesBroken) (Ok tt))) (sym e)
 
 pub charmap-absent : (h : Head) (rows : List (List Cell)) → h.rows ≡ length rows → n13 (keys_in h) h.rows ≡ true
-    → lowest (charmap_conditions (keys_in h) rows) ≡ Refuse refusal.KeyAbsent
+    → lowest (charmap_conditions (keys_in h) rows) ≡ Err refusal.KeyAbsent
 charmap-absent h rows n e = charmap-verdict h rows n ∙ pick_yes (n13 (keys_in h) h.rows) _ _ e
 
 -- where no key is absent: g is the header with its default row, b tells that 16 does not hold there
@@ -270,19 +268,21 @@ module _ (lim : Limits) (h g : Head) (rows : List (List Cell)) (b : Bool) (s c i
       sound (rows_at (keys_in h) rows) c i o (subst (λ (x : Head). Holding lim x 0 (rows_at (keys_in h) rows) [] (slices s c i o)) (sym now.0) now.1)
       ∙ ap (λ (x : Head). not (n16 (keys_in x) (rows_at (keys_in h) rows))) now.0
 
-  verdict : lowest (charmap_conditions (keys_in h) rows) ≡ pick (n16 (keys_in h) (rows_at (keys_in h) rows)) (Refuse refusal.StatesBroken) Fine
+  verdict : lowest (charmap_conditions (keys_in h) rows) ≡ pick (n16 (keys_in h) (rows_at (keys_in h) rows)) (Err refusal.StatesBroken) (Ok tt)
   verdict = charmap-verdict h rows count ∙ pick_no (n13 (keys_in h) h.rows) _ _ there
 
-  pub charmap-broken : b ≡ false → lowest (charmap_conditions (keys_in h) rows) ≡ Refuse refusal.StatesBroken
+  pub charmap-broken : b ≡ false → lowest (charmap_conditions (keys_in h) rows) ≡ Err refusal.StatesBroken
   charmap-broken e = verdict ∙ pick_yes (n16 (keys_in h) (rows_at (keys_in h) rows)) _ _ (not-false (n16 (keys_in h) (rows_at (keys_in h) rows)) (sym sound-at ∙ e))
 
-  pub charmap-taken : b ≡ true
-      → StepTaken lim (judged (lowest (charmap_conditions (keys_in h) rows)) (reading Mappings (keys_in h) (rows_at (keys_in h) rows) [])) (outcome.On (progress Mappings g 0)) (slices s c i o)
-  charmap-taken e =
-      fine-taken lim (lowest (charmap_conditions (keys_in h) rows)) (reading Mappings (keys_in h) (rows_at (keys_in h) rows) []) (head_at h (rows_at (keys_in h) rows))
-      (progress Mappings g 0) (slices s c i o)
+  pub charmap-taken : (n : ℕ) → n ≡ 0 → b ≡ true
+      → StepTaken lim (judged (lowest (charmap_conditions (keys_in h) rows)) (reading Mappings (keys_in h) (rows_at (keys_in h) rows) [])) (Ok tt) Mappings g n (slices s c i o)
+  charmap-taken n en e =
+      fine-taken lim (lowest (charmap_conditions (keys_in h) rows)) (reading Mappings (keys_in h) (rows_at (keys_in h) rows) [])
+      Mappings g n (slices s c i o)
       (verdict ∙ pick_no (n16 (keys_in h) (rows_at (keys_in h) rows)) _ _ (not-true (n16 (keys_in h) (rows_at (keys_in h) rows)) (sym sound-at ∙ e)))
-      (ap (λ (x : Head). progress Mappings x 0) now.0) refl now.1
+      refl (ap keys_in now.0)
+      (subst (λ (k : ℕ). Holding lim g k (rows_at (keys_in h) rows) [] (slices s c i o)) (sym en)
+      (subst (λ (x : Head). Holding lim x 0 (rows_at (keys_in h) rows) [] (slices s c i o)) (sym now.0) now.1))
 
 -- no mapping is held yet
 pub Holding-none : (lim : Limits) (h : Head) (n : ℕ) (rows : List (List Cell)) (ls : List Line) (lent : Slices) → n ≡ 0 → Holding lim h n rows ls lent

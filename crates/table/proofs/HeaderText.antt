@@ -2,6 +2,11 @@
 -- in_order_lem        the lines so far in the text's order       header-said      what was read up to CHARMAP is what the header says
 -- key-asked       no condition holds at a line of it         nothing-absent   nor at CHARMAP
 -- says-one        one header says one table
+use Rattle.table.specs.declared.value.Class.TheVariants.{Sbcs, Mbcs}
+use Rattle.table.specs.declared.states.Code.{Code}
+use Rattle.table.specs.Codes.{code_of}
+use Rattle.std.specs.Prelude.{Some}
+use Rattle.table.specs.Header.{ReadValue}
 use Prim.Native.Nat.{ℕ, suc, ◌+◌, ◌<◌, ◌≤◌}
 use mathlib.Core.Path.{◌≡◌, refl, sym, ap, ◌∙◌, subst}
 use mathlib.Core.Logic.{◌⊎◌, inl, inr}
@@ -35,11 +40,10 @@ use Rattle.lists.specs.Options.{is_some}
 use Rattle.lists.specs.Place.{fill_range}
 use Rattle.lists.proofs.Laws.{and_yes, and_left, and_right}
 use Rattle.lists.proofs.Choice.{pick-true-true}
-use Rattle.table.proofs.OneMore.{row-over}
-use Rattle.table.specs.declared.row.Entry.{Entry}
+use Rattle.table.proofs.OneMore.{rows_over}
+use Rattle.table.specs.Row.{Entry}
 use Rattle.table.specs.declared.value.Key.{Key}
 use Rattle.table.specs.declared.value.Key.TheVariants.{CodeSetName, CurMin, CurMax, ConvClass, SubChar, SubChar1, State, Base, Other}
-use Rattle.table.specs.declared.value.Value.{Value}
 use Rattle.table.specs.declared.value.Value.TheVariants.{Min, Max, Class, Sub, Sub1, Row}
 
 -- ## The lines of a header, the last one first, and in the text's order
@@ -216,7 +220,7 @@ once-here k v P ps qs (x, e, f) =
     (o.0, subst P (sym o.1) f)
 
 -- no condition of the grammar holds at a line of key k and value x
-pub record Asked (lim : Limits) (h : Keys) (n : ℕ) (k : Key) (x : Value) : Type 0 where
+pub record Asked (lim : Limits) (h : Keys) (n : ℕ) (k : Key) (x : ReadValue) : Type 0 where
   pub again : n11 h k ≡ false
   pub fit : n12 x ≡ false
   pub built : n14 n x ≡ false
@@ -250,9 +254,9 @@ word-built n k (inr (e, z)) = rw (e, z)
 row-asked : (lim : Limits) (h : Keys) (n : ℕ) (es : List Entry) (v : List ℕ) → StateRow n es v → n < lim.rows → Asked lim h n State (value_of State v)
 unfolding n11 n12 n14 n15
 row-asked lim h n es v r room =
-    let e : value_of State v ≡ Row r.word false false = (row_reads r.word es v r.form).1 ∙ (λ i. Row r.word ((none-unbuilt es).1 r.built i) ((none_over es).1 r.ranged i)) in
+    let e : value_of State v ≡ Some (Row r.word false false) = (row_reads r.word es v r.form).1 ∙ (λ i. Some (Row r.word ((none-unbuilt es).1 r.built i) ((none_over es).1 r.ranged i))) in
     subst (Asked lim h n State) (sym e)
-    (record { again = refl; fit = refl; built = word-built n r.word r.opening; ranged = row-over lim n false ∙ lt-leb lim.rows n room })
+    (record { again = refl; fit = refl; built = word-built n r.word r.opening; ranged = rows_over lim n false ∙ lt-leb lim.rows n room })
 
 module _ (lim : Limits) (h : Keys) (rows : List (List Cell)) (ps qs : List Pair) (v : List ℕ) (t : Table) (held : HeaderKept h rows ps) where
   name-asked : Once CodeSetName NameValue (reverse_aux ps (pair (key_text CodeSetName) v ∷ qs)) → Asked lim h (length rows) CodeSetName (value_of CodeSetName v)
@@ -355,7 +359,7 @@ same-value vs v w e f = let k : v ∷ [] ≡ w ∷ [] = sym e ∙ f in cc
 one_class : (v : List ℕ) → Quoted (ascii "SBCS") v → Quoted (ascii "MBCS") v → ⊥
 unfolding class_name same
 one_class v p q =
-    let e : Class 1 ≡ Class 2 = sym (class-reads (ascii "SBCS") v p) ∙ class-reads (ascii "MBCS") v q in
+    let e : Some (Class Sbcs) ≡ Some (Class Mbcs) = sym (class-reads (ascii "SBCS") v p) ∙ class-reads (ascii "MBCS") v q in
     let k : ◌≡◌ {A = ℕ} 1 2 = cc in
     omega arith
 
@@ -396,18 +400,19 @@ module _ (h : Keys) (rows : List (List Cell)) (ps : List Pair) (t : Table) (held
 
 one-min : (a b : ℕ) (ps : List Pair) → Once CurMin (SizeValue a) ps → Once CurMin (SizeValue b) ps → a ≡ b
 one-min a b ps (v, e, f) (w, g, i) =
-    let k : Min a ≡ Min b = sym (min-reads a v f) ∙ min-reads b v (subst (SizeValue b) (same-value (values_of CurMin ps) w v g e) i) in cc
+    let k : Some (Min a) ≡ Some (Min b) = sym (min-reads a v f) ∙ min-reads b v (subst (SizeValue b) (same-value (values_of CurMin ps) w v g e) i) in cc
 
 one-max : (a b : ℕ) (ps : List Pair) → Once CurMax (SizeValue a) ps → Once CurMax (SizeValue b) ps → a ≡ b
 one-max a b ps (v, e, f) (w, g, i) =
-    let k : Max a ≡ Max b = sym (max-reads a v f) ∙ max-reads b v (subst (SizeValue b) (same-value (values_of CurMax ps) w v g e) i) in cc
+    let k : Some (Max a) ≡ Some (Max b) = sym (max-reads a v f) ∙ max-reads b v (subst (SizeValue b) (same-value (values_of CurMax ps) w v g e) i) in cc
 
 one-sub : (c d : List ℕ) (ps : List Pair) → Once SubChar (SubcharValue c) ps → Once SubChar (SubcharValue d) ps → c ≡ d
 one-sub c d ps (v, e, f) (w, g, i) =
     let j : SubcharValue d v = subst (SubcharValue d) (same-value (values_of SubChar ps) w v g e) i in
-    let k : Sub (packed c) (length c) ≡ Sub (packed d) (length d) = sym (sub-reads c v f) ∙ sub-reads d v j in
-    let p : packed c ≡ packed d = cc in
-    let n : length c ≡ length d = cc in
+    let k : Some (Sub (code_of c)) ≡ Some (Sub (code_of d)) = sym (sub-reads c v f) ∙ sub-reads d v j in
+    let same : code_of c ≡ code_of d = cc in
+    let p : packed c ≡ packed d = ap (λ (x : Code). x.bits) same in
+    let n : length c ≡ length d = ap (λ (x : Code). x.len) same in
     pack-one-way c d (BytesValue⇒AllByte c v f.1) (BytesValue⇒AllByte d v j.1) n f.0 p
 
 once-none : (k : Key) (P : List ℕ → Type 0) (ps : List Pair) → Once k P ps → values_of k ps ≡ [] → ⊥
@@ -418,7 +423,7 @@ one-sub1 none none ps x y = refl
 one-sub1 none (some b) ps x y = absurd (once-none SubChar1 (BytesValue (b ∷ [])) ps y x)
 one-sub1 (some a) none ps x y = absurd (once-none SubChar1 (BytesValue (a ∷ [])) ps x y)
 one-sub1 (some a) (some b) ps (v, e, f) (w, g, i) =
-    let k : Sub1 a ≡ Sub1 b = sym (sub1-reads a v f) ∙ sub1-reads b v (subst (BytesValue (b ∷ [])) (same-value (values_of SubChar1 ps) w v g e) i) in
+    let k : Some (Sub1 a) ≡ Some (Sub1 b) = sym (sub1-reads a v f) ∙ sub1-reads b v (subst (BytesValue (b ∷ [])) (same-value (values_of SubChar1 ps) w v g e) i) in
     let n : a ≡ b = cc in
     ap some n
 

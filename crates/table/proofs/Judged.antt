@@ -1,5 +1,8 @@
 -- One line of a text, judged fine: what the lines so far have given keeps its ranges before CHARMAP, T1 to T9 from there on, and T10 behind
 -- END CHARMAP.
+use Rattle.table.specs.Header.{ReadValue}
+use Rattle.table.specs.Header.{ReadLine}
+use Rattle.std.specs.Prelude.{Option as Found, Some, None, Ok, Err}
 use Prim.Native.Nat.{ℕ, suc, ◌+◌, ◌-◌, ◌<◌, ◌≤◌}
 use mathlib.Core.Path.{◌≡◌, refl, ap, subst, sym, ◌∙◌}
 use mathlib.Core.Option.{Option}
@@ -28,27 +31,21 @@ use Rattle.table.specs.Text.{skip_at, ends_at, byte_of, is_charmap, content_end}
 use Rattle.table.specs.Row.{entries_of, row_of}
 use Rattle.table.specs.Header.{is_row, key_line, keyed_line, key_end, key_of, header_line_at, header_line_of}
 use Rattle.table.specs.Mapping.{BodyLine, no_form, reserved, blank, ending, mapping, body_line_of, after_end_of}
-use Rattle.table.specs.Numbers.{lowest, n13, n15, row_over, n16, n20, n21, n22, n23, n24, n25, n26, n28, rows_at, key_conditions, charmap_conditions, mapping_conditions, nothing_absent, keeps_states}
+use Rattle.table.specs.Numbers.{lowest, n13, n15, row_over, n16, n20, n21, n22, n23, n24, n25, n26, n28, rows_at, key_conditions, charmap_conditions, mapping_conditions, nothing_absent, keeps_states, Verdict}
 use Rattle.table.specs.Load.{Reading, goes_on, stop, judged, keep_value, keep_row, line_as, header_asks, mapping_asks, last_asks, phase_asks, line_asks, line_step}
 use Rattle.table.specs.FirstLine.{NoneHolds}
-use Rattle.table.specs.declared.text.Place.{Place}
-use Rattle.table.specs.declared.text.Place.TheVariants.{At, No}
 use Rattle.table.specs.declared.header.HeaderLine.TheVariants as header
 use Rattle.table.specs.declared.load.Refusal.{Refusal}
-use Rattle.table.specs.declared.load.Verdict.{Verdict}
-use Rattle.table.specs.declared.load.Verdict.TheVariants.{Fine, Refuse}
 use Rattle.table.specs.declared.load.Phase.{Phase}
 use Rattle.table.specs.declared.load.Phase.TheVariants.{Header, Mappings, Ended}
 use Rattle.table.proofs.Packing.{unpacked-bytes}
 use Rattle.table.proofs.HeaderLaws.{value-ranges, row-length}
 use Rattle.table.proofs.MappingLaws.{form-bytes}
 use Rattle.table.proofs.LowestLaws.{lowest-fine}
-use Rattle.table.specs.declared.header.HeaderLine.{HeaderLine}
 use Rattle.table.specs.loops.Ranges.{InRange}
-use Rattle.table.proofs.OneMore.{row-over, lines-over}
+use Rattle.table.proofs.OneMore.{rows_over, lines-over}
 use Rattle.table.specs.declared.value.Key.{Key}
-use Rattle.table.specs.declared.value.Value.{Value}
-use Rattle.table.specs.declared.value.Value.TheVariants.{Unfit, Any, Name, Min, Max, Class, Sub, Sub1, Row, Unbuilt}
+use Rattle.table.specs.declared.value.Value.TheVariants.{Any, Name, Min, Max, Class, Sub, Sub1, Row, Unbuilt}
 
 -- a line's outcome
 stop-goes-on : (x : Refusal) (r : Reading) → stop x ≡ goes_on r → ⊥
@@ -57,26 +54,26 @@ stop-goes-on x r e = let z : ◌≡◌ {A = ℕ} 0 1 = cc in omega arith
 goes-on-same : (r s : Reading) → goes_on r ≡ goes_on s → r ≡ s
 goes-on-same r s e = cc
 
-pub judged-goes-on : (v : Verdict) (r s : Reading) → judged v r ≡ goes_on s → (v ≡ Fine) × (r ≡ s)
-judged-goes-on Fine r s e = (refl, goes-on-same r s e)
-judged-goes-on (Refuse x) r s e = absurd (stop-goes-on x s e)
+pub judged-goes-on : (v : Verdict) (r s : Reading) → judged v r ≡ goes_on s → (v ≡ Ok tt) × (r ≡ s)
+judged-goes-on (Ok tt) r s e = (refl, goes-on-same r s e)
+judged-goes-on (Err x) r s e = absurd (stop-goes-on x s e)
 
 -- the value of a header line
-unfoldable LineRange : HeaderLine → Type 0
-LineRange header.NoForm = Unit {0}
-LineRange header.Blank = Unit {0}
-LineRange header.Charmap = Unit {0}
-LineRange (header.Known k v q e) = InRange v
+unfoldable LineRange : ReadLine → Type 0
+LineRange None = Unit {0}
+LineRange (Some header.Blank) = Unit {0}
+LineRange (Some header.Charmap) = Unit {0}
+LineRange (Some (header.Known k v q e)) = InRange v
 
-key-range : (s : List ℕ) (k : Key) (q : ℕ) (p : Place) → LineRange (key_line s k q p)
+key-range : (s : List ℕ) (k : Key) (q : ℕ) (p : Found ℕ) → LineRange (key_line s k q p)
 unfolding LineRange key_line
-key-range s k q No = tt
-key-range s k q (At e) = value-ranges k (take (e - q) (drop q s))
+key-range s k q None = tt
+key-range s k q (Some e) = value-ranges k (take (e - q) (drop q s))
 
-keyed-range : (s : List ℕ) (at : ℕ) (p : Place) → LineRange (keyed_line s at p)
+keyed-range : (s : List ℕ) (at : ℕ) (p : Found ℕ) → LineRange (keyed_line s at p)
 unfolding LineRange keyed_line
-keyed-range s at No = tt
-keyed-range s at (At e) =
+keyed-range s at None = tt
+keyed-range s at (Some e) =
     pick-case LineRange (eqb at e) _ _ (λ _. tt)
     (λ _. key-range s (key_of (take (e - at) (drop at s))) (e + 1) (content_end false (e + 1) (drop (e + 1) s)))
 
@@ -104,9 +101,9 @@ Fits lim h rows = HeadFits lim.rows h.min (max_of h) (subchar_of h) h.subchar1 r
 
 row_fits : (lim : Limits) (h : Keys) (rows : List (List Cell)) (v : List ℕ) (o : Bool) → row_over lim (length rows) o ≡ false → Fits lim h rows
     → Fits lim h (rows ++ (row_of (entries_of v) ∷ []))
-row_fits lim h rows v true e f = absurd (clash (row-over lim (length rows) true) e)
+row_fits lim h rows v true e f = absurd (clash (rows_over lim (length rows) true) e)
 row_fits lim h rows v false e f =
-    let n = leb-false lim.rows (length rows) (sym (row-over lim (length rows) false) ∙ e) in
+    let n = leb-false lim.rows (length rows) (sym (rows_over lim (length rows) false) ∙ e) in
     let l : length (rows ++ (row_of (entries_of v) ∷ [])) ≡ length rows + 1 = length-append rows (row_of (entries_of v) ∷ []) in
     record {
       least = f.least;
@@ -117,22 +114,22 @@ row_fits lim h rows v false e f =
       byte = f.byte;
     }
 
-keep-fits : (lim : Limits) (h : Keys) (rows : List (List Cell)) (v : List ℕ) (x : Value) → InRange x → n15 lim (length rows) x ≡ false → Fits lim h rows → Fits lim (keep_value h x) (keep_row x v rows)
+keep-fits : (lim : Limits) (h : Keys) (rows : List (List Cell)) (v : List ℕ) (x : ReadValue) → InRange x → n15 lim (length rows) x ≡ false → Fits lim h rows → Fits lim (keep_value h x) (keep_row x v rows)
 unfolding InRange n15 keep_value keep_row is_row
-keep-fits lim h rows v Unfit i e f = f
-keep-fits lim h rows v Any i e f = f
-keep-fits lim h rows v Unbuilt i e f = f
-keep-fits lim h rows v Name i e f = f
-keep-fits lim h rows v (Min d) i e f =
+keep-fits lim h rows v None i e f = f
+keep-fits lim h rows v (Some Any) i e f = f
+keep-fits lim h rows v (Some Unbuilt) i e f = f
+keep-fits lim h rows v (Some Name) i e f = f
+keep-fits lim h rows v (Some (Min d)) i e f =
     record { least = λ _. i.0; room = f.room; most = f.most; full = f.full; bytes = f.bytes; byte = f.byte }
-keep-fits lim h rows v (Max d) i e f =
+keep-fits lim h rows v (Some (Max d)) i e f =
     record { least = f.least; room = f.room; most = i.1; full = f.full; bytes = f.bytes; byte = f.byte }
-keep-fits lim h rows v (Class c) i e f = f
-keep-fits lim h rows v (Sub b n) i e f =
-    record { least = f.least; room = f.room; most = f.most; full = f.full; bytes = unpacked-bytes n b i.2; byte = f.byte }
-keep-fits lim h rows v (Sub1 b) i e f =
+keep-fits lim h rows v (Some (Class c)) i e f = f
+keep-fits lim h rows v (Some (Sub c)) i e f =
+    record { least = f.least; room = f.room; most = f.most; full = f.full; bytes = unpacked-bytes c.len c.bits i.2; byte = f.byte }
+keep-fits lim h rows v (Some (Sub1 b)) i e f =
     record { least = f.least; room = f.room; most = f.most; full = f.full; bytes = f.bytes; byte = omega arith }
-keep-fits lim h rows v (Row w l o) i e f = row_fits lim h rows v o e f
+keep-fits lim h rows v (Some (Row w l o)) i e f = row_fits lim h rows v o e f
 
 -- the table of what was read
 abbrev pub table_with : Keys → List (List Cell) → List Line → Table
@@ -286,13 +283,13 @@ RulesSoFarAt lim Ended h rows ls = Sound lim (table_with h rows ls)
 abbrev pub RulesSoFar : Limits → Reading → Type 0
 RulesSoFar lim r = RulesSoFarAt lim r.phase r.head r.rows r.lines
 
-header-held : (lim : Limits) (h : Keys) (rows : List (List Cell)) (s : List ℕ) (x : HeaderLine) → LineRange x → Fits lim h rows
+header-held : (lim : Limits) (h : Keys) (rows : List (List Cell)) (s : List ℕ) (x : ReadLine) → LineRange x → Fits lim h rows
     → NoneHolds (header_asks lim h rows s x).conditions → RulesSoFar lim (header_asks lim h rows s x).behind
 unfolding LineRange key_conditions charmap_conditions
-header-held lim h rows s header.NoForm i f n = f
-header-held lim h rows s header.Blank i f n = f
-header-held lim h rows s header.Charmap i f n = (charmap-proper lim h rows f, λ one. charmap-keeps lim h rows f n.0 n.1.0 one)
-header-held lim h rows s (header.Known k v q e) i f n = keep-fits lim h rows (take (e - q) (drop q s)) v i n.1.1.1.0 f
+header-held lim h rows s None i f n = f
+header-held lim h rows s (Some header.Blank) i f n = f
+header-held lim h rows s (Some header.Charmap) i f n = (charmap-proper lim h rows f, λ one. charmap-keeps lim h rows f n.0 n.1.0 one)
+header-held lim h rows s (Some (header.Known k v q e)) i f n = keep-fits lim h rows (take (e - q) (drop q s)) v i n.1.1.1.0 f
 
 mapping-held : (lim : Limits) (h : Keys) (rows : List (List Cell)) (ls : List Line) (s : List ℕ) (x : BodyLine) → body_line_of s ≡ x
     → SoundBy KeepsSoFar lim (table_with h rows ls) → NoneHolds (mapping_asks lim h rows ls x).conditions → RulesSoFar lim (mapping_asks lim h rows ls x).behind

@@ -14,6 +14,7 @@ use Rattle.table.specs.Codes.{AllByte}
 use Rattle.table.specs.Meaning.{Table, steps_of}
 use Rattle.table.specs.Rules.{t1_sizes, Keeps}
 use Rattle.table.proofs.Depth.{short-code}
+use Rattle.std.specs.Prelude.{None}
 
 -- mb_cur_min is no larger than mb_cur_max, both are 1 to 4
 pub record Sizes (min max : ℕ) : Type 0 where
@@ -35,5 +36,5 @@ module _ (lim : Limits) (t : Table) (k : Keeps lim t) where
   pub kept-sizes : Sizes t.min t.max
   kept-sizes = t1_sizes⇒Sizes t.min t.max k.so_far.rule1-sizes
 
-  pub kept-short : (s : List ℕ) → AllByte s → (end_kind (steps_of t) 0 s ≡ 0 → ⊥) → length s ≤ longest
+  pub kept-short : (s : List ℕ) → AllByte s → (end_kind (steps_of t) 0 s ≡ None → ⊥) → length s ≤ longest
   kept-short s b e = let h = short-code (steps_of t) t.max 0 s k.so_far.rule3 b e in omega (arith, kept-sizes.most)

@@ -1,4 +1,9 @@
 -- The keys that the code's struct holds: which are given, their values, 13, the rows at CHARMAP, and a value kept.
+use Rattle.table.specs.declared.value.Class.{Class as NamedClass}
+use Rattle.table.specs.Keys.{number_of_class}
+use Rattle.table.specs.declared.value.Class.TheVariants.{Sbcs, Mbcs}
+use Rattle.std.specs.Prelude.{Some, None}
+use Rattle.table.specs.Header.{ReadValue}
 use Prim.Native.Nat.{ℕ, zero, suc, ◌+◌, ◌-◌, ◌≤◌}
 use mathlib.Core.Path.{◌≡◌, refl, sym, ap, ◌∙◌}
 use mathlib.Core.Bool.{Bool, true, false, not}
@@ -23,8 +28,7 @@ use Rattle.table.proofs.NumbersBack.{sub1_of-sub1_in}
 use Rattle.table.proofs.Packing.{pack-unpack, length-unpacked}
 use Rattle.lists.specs.Options.{is_some, or_else}
 use Rattle.table.specs.loops.Ranges.{InRange}
-use Rattle.table.specs.declared.value.Value.{Value}
-use Rattle.table.specs.declared.value.Value.TheVariants.{Unfit, Any, Unbuilt, Name, Min, Max, Class, Sub, Sub1, Row}
+use Rattle.table.specs.declared.value.Value.TheVariants.{Any, Unbuilt, Name, Min, Max, Class, Sub, Sub1, Row}
 
 -- a key is given where its number is not 0
 pub is_some-kept : {A : Type 0} (n : ℕ) (x : A) → is_some (kept n x) ≡ ltb 0 n
@@ -139,67 +143,71 @@ unfolding rows_at
 rows-by h rows e = λ i. pick (class-is h.class i) (pick (eqb (sym e i) 0) (replicate 256 ends ∷ []) rows) rows
 
 -- a value kept in the struct
-unfoldable pub keep_in : Head → Value → Head
-keep_in h Unfit = h
-keep_in h Any = h
-keep_in h Unbuilt = h
-keep_in h Name = record { name = true; min = h.min; max = h.max; class = h.class; sub = h.sub; sub1 = h.sub1; rows = h.rows }
-keep_in h (Min d) = record { name = h.name; min = d; max = h.max; class = h.class; sub = h.sub; sub1 = h.sub1; rows = h.rows }
-keep_in h (Max d) = record { name = h.name; min = h.min; max = d; class = h.class; sub = h.sub; sub1 = h.sub1; rows = h.rows }
-keep_in h (Class c) = record { name = h.name; min = h.min; max = h.max; class = c; sub = h.sub; sub1 = h.sub1; rows = h.rows }
-keep_in h (Sub b n) = record { name = h.name; min = h.min; max = h.max; class = h.class; sub = record { bits = b; len = n }; sub1 = h.sub1; rows = h.rows }
-keep_in h (Sub1 b) = record { name = h.name; min = h.min; max = h.max; class = h.class; sub = h.sub; sub1 = 1 + b; rows = h.rows }
-keep_in h (Row w l o) = record { name = h.name; min = h.min; max = h.max; class = h.class; sub = h.sub; sub1 = h.sub1; rows = h.rows + 1 }
+unfoldable pub keep_in : Head → ReadValue → Head
+keep_in h None = h
+keep_in h (Some Any) = h
+keep_in h (Some Unbuilt) = h
+keep_in h (Some Name) = record { name = true; min = h.min; max = h.max; class = h.class; sub = h.sub; sub1 = h.sub1; rows = h.rows }
+keep_in h (Some (Min d)) = record { name = h.name; min = d; max = h.max; class = h.class; sub = h.sub; sub1 = h.sub1; rows = h.rows }
+keep_in h (Some (Max d)) = record { name = h.name; min = h.min; max = d; class = h.class; sub = h.sub; sub1 = h.sub1; rows = h.rows }
+keep_in h (Some (Class c)) = record { name = h.name; min = h.min; max = h.max; class = number_of_class c; sub = h.sub; sub1 = h.sub1; rows = h.rows }
+keep_in h (Some (Sub c)) = record { name = h.name; min = h.min; max = h.max; class = h.class; sub = c; sub1 = h.sub1; rows = h.rows }
+keep_in h (Some (Sub1 b)) = record { name = h.name; min = h.min; max = h.max; class = h.class; sub = h.sub; sub1 = 1 + b; rows = h.rows }
+keep_in h (Some (Row w l o)) = record { name = h.name; min = h.min; max = h.max; class = h.class; sub = h.sub; sub1 = h.sub1; rows = h.rows + 1 }
 
-pub keep-proper : (h : Head) (v : Value) → InRange v → ProperHead h → ProperHead (keep_in h v)
+named : (c : NamedClass) → (1 ≤ number_of_class c) × (number_of_class c ≤ 2)
+named Sbcs = (omega arith, omega arith)
+named Mbcs = (omega arith, omega arith)
+
+pub keep-proper : (h : Head) (v : ReadValue) → InRange v → ProperHead h → ProperHead (keep_in h v)
 unfolding keep_in InRange
-keep-proper h Unfit i p = p
-keep-proper h Any i p = p
-keep-proper h Unbuilt i p = p
-keep-proper h Name i p = record { min-small = p.min-small; max-small = p.max-small; class-small = p.class-small; sub-short = p.sub-short; sub-none = p.sub-none; sub-padded = p.sub-padded; sub1-small = p.sub1-small }
-keep-proper h (Min d) i p = record { min-small = i.1; max-small = p.max-small; class-small = p.class-small; sub-short = p.sub-short; sub-none = p.sub-none; sub-padded = p.sub-padded; sub1-small = p.sub1-small }
-keep-proper h (Max d) i p = record { min-small = p.min-small; max-small = i.1; class-small = p.class-small; sub-short = p.sub-short; sub-none = p.sub-none; sub-padded = p.sub-padded; sub1-small = p.sub1-small }
-keep-proper h (Class c) i p = record { min-small = p.min-small; max-small = p.max-small; class-small = i.1; sub-short = p.sub-short; sub-none = p.sub-none; sub-padded = p.sub-padded; sub1-small = p.sub1-small }
-keep-proper h (Sub b n) i p = record { min-small = p.min-small; max-small = p.max-small; class-small = p.class-small; sub-short = i.1; sub-none = λ z. absurd (omega (arith, z, i.0)); sub-padded = λ _. i.3; sub1-small = p.sub1-small }
-keep-proper h (Sub1 b) i p = record { min-small = p.min-small; max-small = p.max-small; class-small = p.class-small; sub-short = p.sub-short; sub-none = p.sub-none; sub-padded = p.sub-padded; sub1-small = omega arith }
-keep-proper h (Row w l o) i p = record { min-small = p.min-small; max-small = p.max-small; class-small = p.class-small; sub-short = p.sub-short; sub-none = p.sub-none; sub-padded = p.sub-padded; sub1-small = p.sub1-small }
+keep-proper h None i p = p
+keep-proper h (Some Any) i p = p
+keep-proper h (Some Unbuilt) i p = p
+keep-proper h (Some Name) i p = record { min-small = p.min-small; max-small = p.max-small; class-small = p.class-small; sub-short = p.sub-short; sub-none = p.sub-none; sub-padded = p.sub-padded; sub1-small = p.sub1-small }
+keep-proper h (Some (Min d)) i p = record { min-small = i.1; max-small = p.max-small; class-small = p.class-small; sub-short = p.sub-short; sub-none = p.sub-none; sub-padded = p.sub-padded; sub1-small = p.sub1-small }
+keep-proper h (Some (Max d)) i p = record { min-small = p.min-small; max-small = i.1; class-small = p.class-small; sub-short = p.sub-short; sub-none = p.sub-none; sub-padded = p.sub-padded; sub1-small = p.sub1-small }
+keep-proper h (Some (Class c)) i p = record { min-small = p.min-small; max-small = p.max-small; class-small = (named c).1; sub-short = p.sub-short; sub-none = p.sub-none; sub-padded = p.sub-padded; sub1-small = p.sub1-small }
+keep-proper h (Some (Sub c)) i p = record { min-small = p.min-small; max-small = p.max-small; class-small = p.class-small; sub-short = i.1; sub-none = λ z. absurd (omega (arith, z, i.0)); sub-padded = λ _. i.3; sub1-small = p.sub1-small }
+keep-proper h (Some (Sub1 b)) i p = record { min-small = p.min-small; max-small = p.max-small; class-small = p.class-small; sub-short = p.sub-short; sub-none = p.sub-none; sub-padded = p.sub-padded; sub1-small = omega arith }
+keep-proper h (Some (Row w l o)) i p = record { min-small = p.min-small; max-small = p.max-small; class-small = p.class-small; sub-short = p.sub-short; sub-none = p.sub-none; sub-padded = p.sub-padded; sub1-small = p.sub1-small }
 
-pub keep-count : (h : Head) (v : Value) → (keep_in h v).rows ≡ pick (is_row v) (h.rows + 1) h.rows
+pub keep-count : (h : Head) (v : ReadValue) → (keep_in h v).rows ≡ pick (is_row v) (h.rows + 1) h.rows
 unfolding keep_in is_row
-keep-count h Unfit = refl
-keep-count h Any = refl
-keep-count h Unbuilt = refl
-keep-count h Name = refl
-keep-count h (Min d) = refl
-keep-count h (Max d) = refl
-keep-count h (Class c) = refl
-keep-count h (Sub b n) = refl
-keep-count h (Sub1 b) = refl
-keep-count h (Row w l o) = refl
+keep-count h None = refl
+keep-count h (Some Any) = refl
+keep-count h (Some Unbuilt) = refl
+keep-count h (Some Name) = refl
+keep-count h (Some (Min d)) = refl
+keep-count h (Some (Max d)) = refl
+keep-count h (Some (Class c)) = refl
+keep-count h (Some (Sub c)) = refl
+keep-count h (Some (Sub1 b)) = refl
+keep-count h (Some (Row w l o)) = refl
 
 -- is kept among the keys
 sub1-some : (b : ℕ) → sub1_in (1 + b) ≡ some b
 sub1-some b = let k : 1 + b - 1 ≡ b = omega arith in rw (ne_eqb (1 + b) 0 (λ e. omega arith), k)
 
-pub kept-keys : (h : Head) (v : Value) → InRange v → keys_in (keep_in h v) ≡ keep_value (keys_in h) v
+pub kept-keys : (h : Head) (v : ReadValue) → InRange v → keys_in (keep_in h v) ≡ keep_value (keys_in h) v
 unfolding InRange keep_in keep_value
-kept-keys h Unfit i = refl
-kept-keys h Any i = refl
-kept-keys h Unbuilt i = refl
-kept-keys h Name i = refl
-kept-keys h (Min d) i = λ t. record { name = h.name; min = kept-some d d i.0 t; max = (keys_in h).max; class = (keys_in h).class; subchar = (keys_in h).subchar; subchar1 = (keys_in h).subchar1 }
-kept-keys h (Max d) i = λ t. record { name = h.name; min = (keys_in h).min; max = kept-some d d i.0 t; class = (keys_in h).class; subchar = (keys_in h).subchar; subchar1 = (keys_in h).subchar1 }
-kept-keys h (Class c) i =
-    λ t. record { name = h.name; min = (keys_in h).min; max = (keys_in h).max; class = kept-some c (class_by c) i.0 t; subchar = (keys_in h).subchar; subchar1 = (keys_in h).subchar1 }
-kept-keys h (Sub b n) i =
-    λ t. record { name = h.name; min = (keys_in h).min; max = (keys_in h).max; class = (keys_in h).class; subchar = kept-some n (unpacked n b) i.0 t; subchar1 = (keys_in h).subchar1 }
-kept-keys h (Sub1 b) i =
+kept-keys h None i = refl
+kept-keys h (Some Any) i = refl
+kept-keys h (Some Unbuilt) i = refl
+kept-keys h (Some Name) i = refl
+kept-keys h (Some (Min d)) i = λ t. record { name = h.name; min = kept-some d d i.0 t; max = (keys_in h).max; class = (keys_in h).class; subchar = (keys_in h).subchar; subchar1 = (keys_in h).subchar1 }
+kept-keys h (Some (Max d)) i = λ t. record { name = h.name; min = (keys_in h).min; max = kept-some d d i.0 t; class = (keys_in h).class; subchar = (keys_in h).subchar; subchar1 = (keys_in h).subchar1 }
+kept-keys h (Some (Class c)) i =
+    λ t. record { name = h.name; min = (keys_in h).min; max = (keys_in h).max; class = kept-some (number_of_class c) (class_by (number_of_class c)) (named c).0 t; subchar = (keys_in h).subchar; subchar1 = (keys_in h).subchar1 }
+kept-keys h (Some (Sub c)) i =
+    λ t. record { name = h.name; min = (keys_in h).min; max = (keys_in h).max; class = (keys_in h).class; subchar = kept-some c.len (bytes_of c) i.0 t; subchar1 = (keys_in h).subchar1 }
+kept-keys h (Some (Sub1 b)) i =
     λ t. record { name = h.name; min = (keys_in h).min; max = (keys_in h).max; class = (keys_in h).class; subchar = (keys_in h).subchar; subchar1 = sub1-some b t }
-kept-keys h (Row w l o) i = refl
+kept-keys h (Some (Row w l o)) i = refl
 
 -- and the struct is the one that holds them
-pub kept-head : (h : Head) (v : Value) → InRange v → ProperHead h → keep_in h v ≡ head_of (keep_value (keys_in h) v) (pick (is_row v) (h.rows + 1) h.rows)
+pub kept-head : (h : Head) (v : ReadValue) → InRange v → ProperHead h → keep_in h v ≡ head_of (keep_value (keys_in h) v) (pick (is_row v) (h.rows + 1) h.rows)
 kept-head h v i p = sym (head-back (keep_in h v) (keep-proper h v i p)) ∙ (λ t. head_of (kept-keys h v i t) (keep-count h v t))
 
-pub kept-as : (h : Head) (v : Value) → InRange v → ProperHead h → (r : Head) → r ≡ keep_in h v → r ≡ head_of (keep_value (keys_in h) v) (pick (is_row v) (h.rows + 1) h.rows)
+pub kept-as : (h : Head) (v : ReadValue) → InRange v → ProperHead h → (r : Head) → r ≡ keep_in h v → r ≡ head_of (keep_value (keys_in h) v) (pick (is_row v) (h.rows + 1) h.rows)
 kept-as h v i p r e = e ∙ kept-head h v i p

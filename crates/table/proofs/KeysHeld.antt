@@ -1,6 +1,12 @@
 -- What the lines of a header have given so far, key by key, by the grammar: none yet, or one value of its form; and the rows.
 -- key-means    which key a word is                       HeaderKept    what the head and the rows hold of the lines so far, the last one first
 -- key-passes   a line that passes the conditions of the grammar: the head with its value holds one line more
+use Rattle.table.specs.declared.value.Class.{Class as NamedClass}
+use Rattle.table.specs.Keys.{number_of_class}
+use Rattle.table.specs.declared.value.Class.TheVariants.{Sbcs, Mbcs}
+use Rattle.table.specs.Codes.{code_of}
+use Rattle.std.specs.Prelude.{Some, None}
+use Rattle.table.specs.Header.{ReadValue}
 use Prim.Native.Nat.{ℕ, suc, ◌+◌, ◌≤◌}
 use mathlib.Core.Path.{◌≡◌, refl, sym, ap, ◌∙◌, subst}
 use mathlib.Core.Logic.{◌⊎◌, inl, inr}
@@ -19,7 +25,6 @@ use Rattle.lists.proofs.Cases.{pick-case}
 use Rattle.lists.proofs.Chains.{or-no-left, or-no-right}
 use Rattle.table.specs.Limits.{Limits}
 use Rattle.table.specs.Cells.{Cell}
-use Rattle.table.specs.Codes.{packed}
 use Rattle.table.specs.Keys.{sbcs, mbcs, class_by, Keys, min_of, max_of, subchar_of, Class as ConvClasses}
 use Rattle.table.specs.Row.{entries_of, row_of, unbuilt_entry, over_entry}
 use Rattle.table.specs.Header.{key_of, class_name, value_of, is_row}
@@ -34,12 +39,11 @@ use Rattle.table.proofs.RowEntries.{none-unbuilt, none_over}
 use Rattle.lists.specs.Strings.{same}
 use Rattle.lists.specs.Tests.{any_of}
 use Rattle.lists.specs.Options.{is_some}
-use Rattle.table.proofs.OneMore.{row-over}
-use Rattle.table.specs.declared.row.Entry.{Entry}
+use Rattle.table.proofs.OneMore.{rows_over}
+use Rattle.table.specs.Row.{Entry}
 use Rattle.table.specs.declared.value.Key.{Key}
 use Rattle.table.specs.declared.value.Key.TheVariants.{CodeSetName, CurMin, CurMax, ConvClass, SubChar, SubChar1, State, Base, Other}
-use Rattle.table.specs.declared.value.Value.{Value}
-use Rattle.table.specs.declared.value.Value.TheVariants.{Unfit, Any, Name, Min, Max, Class, Sub, Sub1, Row, Unbuilt}
+use Rattle.table.specs.declared.value.Value.TheVariants.{Any, Name, Min, Max, Class, Sub, Sub1, Row, Unbuilt}
 
 abbrev pub pair : List ℕ → List ℕ → Pair
 pair w v = record { key = w; value = v }
@@ -155,11 +159,11 @@ rows-own rows vs bs v x r =
 
 -- ## A line that passes the conditions of the grammar
 
-unfit : {A : Type 0} (x : Value) → x ≡ Unfit → n12 x ≡ false → A
+unfit : {A : Type 0} (x : ReadValue) → x ≡ None → n12 x ≡ false → A
 unfolding n12
 unfit x e f = absurd (clash (ap n12 e) f)
 
-later : {A : Type 0} (n : ℕ) (x : Value) → x ≡ Unbuilt → n14 n x ≡ false → A
+later : {A : Type 0} (n : ℕ) (x : ReadValue) → x ≡ Some Unbuilt → n14 n x ≡ false → A
 unfolding n14
 later n x e f = absurd (clash (ap (n14 n) e) f)
 
@@ -173,7 +177,7 @@ row-opening n k es v (inr (inl (z, f))) e = inr (z, none_kept n (ap (λ (x : ℕ
 row-opening n k es v (inr (inr (z, f))) e = absurd (clash (ap (λ (x : ℕ). pick (eqb x 2) true (pick (eqb x 1) (ltb 0 n) false)) z) e)
 
 row-passed : (lim : Limits) (n k : ℕ) (l o : Bool) (v : List ℕ) → RowValue k (entries_of v) v → l ≡ any_of unbuilt_entry (entries_of v) → o ≡ any_of over_entry (entries_of v)
-    → n14 n (Row k l o) ≡ false → n15 lim n (Row k l o) ≡ false → StateRow n (entries_of v) v
+    → n14 n (Some (Row k l o)) ≡ false → n15 lim n (Some (Row k l o)) ≡ false → StateRow n (entries_of v) v
 unfolding n14 n15 row_unbuilt
 row-passed lim n k l o v f x y e g =
     record {
@@ -181,12 +185,12 @@ row-passed lim n k l o v f x y e g =
       form = f;
       opening = row-opening n k (entries_of v) v f (or-no-right l (pick (eqb k 2) true (pick (eqb k 1) (ltb 0 n) false)) e);
       built = (none-unbuilt (entries_of v)).0 (sym x ∙ or-no-left l (pick (eqb k 2) true (pick (eqb k 1) (ltb 0 n) false)) e);
-      ranged = (none_over (entries_of v)).0 (sym y ∙ or-no-left o (leb lim.rows n) (sym (row-over lim n o) ∙ g));
+      ranged = (none_over (entries_of v)).0 (sym y ∙ or-no-left o (leb lim.rows n) (sym (rows_over lim n o) ∙ g));
     }
 
 module _ (lim : Limits) (h : Keys) (rows : List (List Cell)) (ps : List Pair) (v : List ℕ) (held : HeaderKept h rows ps) where
   -- behind a line of the key w, read as x
-  abbrev After : List ℕ → Value → Type 0
+  abbrev After : List ℕ → ReadValue → Type 0
   After w x = HeaderKept (keep_value h x) (keep_row x v rows) (pair w v ∷ ps)
 
   -- the line passes
@@ -200,7 +204,7 @@ module _ (lim : Limits) (h : Keys) (rows : List (List Cell)) (ps : List Pair) (v
   unfolding n11 keep_value keep_row is_row values_of same
   name-passes again fit built ranged = by-case (name-cases v) slots
     where
-      by-case : (value_of CodeSetName v ≡ Unfit) ⊎ ((value_of CodeSetName v ≡ Name) × NameValue v) → Slots h ps → After (key_text CodeSetName) (value_of CodeSetName v)
+      by-case : (value_of CodeSetName v ≡ None) ⊎ ((value_of CodeSetName v ≡ Some Name) × NameValue v) → Slots h ps → After (key_text CodeSetName) (value_of CodeSetName v)
       by-case (inl u) s = unfit (value_of CodeSetName v) u fit
       by-case (inr (e, f)) s = subst (After (key_text CodeSetName)) (sym e) ((given v s.0 (ap flag again) (omega arith) f, s.1, s.2, s.3, s.4, s.5), held.1)
 
@@ -208,7 +212,7 @@ module _ (lim : Limits) (h : Keys) (rows : List (List Cell)) (ps : List Pair) (v
   unfolding n11 keep_value keep_row is_row values_of same
   min-passes again fit built ranged = by-case (min_cases v) slots
     where
-      by-case : (value_of CurMin v ≡ Unfit) ⊎ ((d : ℕ) × (value_of CurMin v ≡ Min d) × SizeValue d v) → Slots h ps → After (key_text CurMin) (value_of CurMin v)
+      by-case : (value_of CurMin v ≡ None) ⊎ ((d : ℕ) × (value_of CurMin v ≡ Some (Min d)) × SizeValue d v) → Slots h ps → After (key_text CurMin) (value_of CurMin v)
       by-case (inl u) s = unfit (value_of CurMin v) u fit
       by-case (inr (d, e, f)) s = subst (After (key_text CurMin)) (sym e) ((s.0, given v s.1 (ap flag again) (omega arith) f, s.2, s.3, s.4, s.5), held.1)
 
@@ -216,7 +220,7 @@ module _ (lim : Limits) (h : Keys) (rows : List (List Cell)) (ps : List Pair) (v
   unfolding n11 keep_value keep_row is_row values_of same
   max-passes again fit built ranged = by-case (max_cases v) slots
     where
-      by-case : (value_of CurMax v ≡ Unfit) ⊎ ((d : ℕ) × (value_of CurMax v ≡ Max d) × SizeValue d v) → Slots h ps → After (key_text CurMax) (value_of CurMax v)
+      by-case : (value_of CurMax v ≡ None) ⊎ ((d : ℕ) × (value_of CurMax v ≡ Some (Max d)) × SizeValue d v) → Slots h ps → After (key_text CurMax) (value_of CurMax v)
       by-case (inl u) s = unfit (value_of CurMax v) u fit
       by-case (inr (d, e, f)) s = subst (After (key_text CurMax)) (sym e) ((s.0, s.1, given v s.2 (ap flag again) (omega arith) f, s.3, s.4, s.5), held.1)
 
@@ -224,13 +228,13 @@ module _ (lim : Limits) (h : Keys) (rows : List (List Cell)) (ps : List Pair) (v
   unfolding n11 class_name keep_value keep_row is_row values_of same
   class-passes again fit built ranged = by-case (class_cases v) slots
     where
-      kept : (c : ℕ) → ClassOf (some (class_by c)) v → Slots h ps → After (key_text ConvClass) (Class c)
+      kept : (c : NamedClass) → ClassOf (some (class_by (number_of_class c))) v → Slots h ps → After (key_text ConvClass) (Some (Class c))
       kept c f s = ((s.0, s.1, s.2, given v s.3 (ap flag again) (omega arith) f, s.4, s.5), held.1)
 
       by_word : (w : List ℕ) → Quoted w v → value_of ConvClass v ≡ class_name w → In w classes
           → Slots h ps → After (key_text ConvClass) (value_of ConvClass v)
-      by_word w q e (inl i) s = subst (After (key_text ConvClass)) (sym (e ∙ ap class_name i)) (kept 1 (inl (refl, subst (λ (x : List ℕ). Quoted x v) i q)) s)
-      by_word w q e (inr (inl i)) s = subst (After (key_text ConvClass)) (sym (e ∙ ap class_name i)) (kept 2 (inr (refl, subst (λ (x : List ℕ). Quoted x v) i q)) s)
+      by_word w q e (inl i) s = subst (After (key_text ConvClass)) (sym (e ∙ ap class_name i)) (kept Sbcs (inl (refl, subst (λ (x : List ℕ). Quoted x v) i q)) s)
+      by_word w q e (inr (inl i)) s = subst (After (key_text ConvClass)) (sym (e ∙ ap class_name i)) (kept Mbcs (inr (refl, subst (λ (x : List ℕ). Quoted x v) i q)) s)
       by_word w q e (inr (inr (inl i))) s = later (length rows) (value_of ConvClass v) (e ∙ ap class_name i) built
       by_word w q e (inr (inr (inr (inl i)))) s = later (length rows) (value_of ConvClass v) (e ∙ ap class_name i) built
       by_word w q e (inr (inr (inr (inr i)))) s = absurd i
@@ -243,7 +247,7 @@ module _ (lim : Limits) (h : Keys) (rows : List (List Cell)) (ps : List Pair) (v
   unfolding n11 keep_value keep_row is_row values_of same
   sub-passes again fit built ranged = by-case (sub_cases v) slots
     where
-      by-case : (value_of SubChar v ≡ Unfit) ⊎ ((c : List ℕ) × (value_of SubChar v ≡ Sub (packed c) (length c)) × SubcharValue c v) → Slots h ps → After (key_text SubChar) (value_of SubChar v)
+      by-case : (value_of SubChar v ≡ None) ⊎ ((c : List ℕ) × (value_of SubChar v ≡ Some (Sub (code_of c))) × SubcharValue c v) → Slots h ps → After (key_text SubChar) (value_of SubChar v)
       by-case (inl u) s = unfit (value_of SubChar v) u fit
       by-case (inr (c, e, f)) s =
           let g = subst (λ (x : List ℕ). SubcharValue x v) (sym (unpacked-packed c (BytesValue⇒AllByte c v f.1) f.0)) f in
@@ -253,7 +257,7 @@ module _ (lim : Limits) (h : Keys) (rows : List (List Cell)) (ps : List Pair) (v
   unfolding n11 keep_value keep_row is_row values_of same
   sub1-passes again fit built ranged = by-case (sub1-cases v) slots
     where
-      by-case : (value_of SubChar1 v ≡ Unfit) ⊎ ((b : ℕ) × (value_of SubChar1 v ≡ Sub1 b) × BytesValue (b ∷ []) v) → Slots h ps → After (key_text SubChar1) (value_of SubChar1 v)
+      by-case : (value_of SubChar1 v ≡ None) ⊎ ((b : ℕ) × (value_of SubChar1 v ≡ Some (Sub1 b)) × BytesValue (b ∷ []) v) → Slots h ps → After (key_text SubChar1) (value_of SubChar1 v)
       by-case (inl u) s = unfit (value_of SubChar1 v) u fit
       by-case (inr (b, e, f)) s = subst (After (key_text SubChar1)) (sym e) ((s.0, s.1, s.2, s.3, s.4, given v s.5 (ap flag again) (omega arith) (b, refl, f)), held.1)
 
@@ -268,7 +272,7 @@ module _ (lim : Limits) (h : Keys) (rows : List (List Cell)) (ps : List Pair) (v
           subst (After (key_text State)) (sym e) (slots, rows-own rows (values_of State ps) (values_of Base ps) v r held.1)
 
   -- a key that is ignored
-  other-passes : (w : List ℕ) → KeyMeans w Other → After w Any
+  other-passes : (w : List ℕ) → KeyMeans w Other → After w (Some Any)
   unfolding keep_value keep_row is_row values_of
   other-passes w (a, b, c, d, e, f, g, i) = rw (a, b, c, d, e, f, g, i) held
 
@@ -282,5 +286,5 @@ module _ (lim : Limits) (h : Keys) (rows : List (List Cell)) (ps : List Pair) (v
   key-passes w SubChar m = subst (λ (x : List ℕ). Passes x SubChar) (sym m) sub-passes
   key-passes w SubChar1 m = subst (λ (x : List ℕ). Passes x SubChar1) (sym m) sub1-passes
   key-passes w State m = subst (λ (x : List ℕ). Passes x State) (sym m) state-passes
-  key-passes w Base m = λ again fit built ranged. later (length rows) Unbuilt refl built
+  key-passes w Base m = λ again fit built ranged. later (length rows) (Some Unbuilt) refl built
   key-passes w Other m = λ again fit built ranged. other-passes w m

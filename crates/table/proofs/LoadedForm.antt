@@ -9,7 +9,7 @@ use Rattle.table.specs.Rules.{Keeps}
 use Rattle.table.specs.Slices.{Slices}
 use Rattle.table.specs.Memory.{record_of, Form, Proper}
 use Rattle.table.specs.Valid.{valid}
-use Rattle.table.specs.Load.{Given, read, accepted, loaded_by, given, left_in}
+use Rattle.table.specs.Load.{Given, read, accepted, record_handed, loaded_by, given, left_in}
 use Rattle.table.proofs.Accepted.{accepted-keeps-rules, accepted-proper}
 use Rattle.table.proofs.Leaves.{left-form}
 use Rattle.table.proofs.GivenText.{given-loaded}
@@ -19,8 +19,8 @@ use Rattle.table.proofs.ValidLaws.{form-valid}
 pub record LoadedForm (lim : Limits) (t : Table) (g : Given) (old : Slices) : Type 0 where
   pub proper : Proper t
   pub keeps : Keeps lim t
-  pub form : let m = left_in lim g old in Form lim t (loaded_by g).table m
-  pub passes : let m = left_in lim g old in valid lim (loaded_by g).table m ≡ true
+  pub form : let m = left_in lim g old in Form lim t (record_handed (loaded_by g)) m
+  pub passes : let m = left_in lim g old in valid lim (record_handed (loaded_by g)) m ≡ true
 
 pub loaded-form : (lim : Limits) (text : List ℕ) (old : Slices) (t : Table) → 1 ≤ lim.rows → given lim text old ≡ read (accepted t)
     → LoadedForm lim t (given lim text old) old

@@ -5,7 +5,7 @@ use Prim.Native.Nat.{ℕ}
 use Rattle.lists.specs.Ascii.{ascii}
 use Rattle.table.specs.Text.{digit_of, skip_of, ends_at, byte_at, point_digits, unicode_at, join_at, bytes_more, bytes_at, is_charmap}
 use Rattle.lists.specs.Strings.{begins}
-use Rattle.table.specs.Mapping.{BodyLine, no_form, reserved, blank, ending, mapping, points_more, indicator_at, indicator_form, bytes_form, points_form, mapping_form, is_end, body_line_at, body_line_of, after_end_at, after_end_of}
+use Rattle.table.specs.Mapping.{BodyLine, no_form, reserved, blank, ending, mapping, points_more, indicator_at, is_end, body_line_of, after_end_of}
 
 abbrev texts : List (List ℕ)
 texts =
@@ -114,7 +114,7 @@ forms =
     []
 
 read : map body_line_of texts ≡ forms
-unfolding digit_of skip_of begins ends_at byte_at point_digits unicode_at join_at bytes_more bytes_at is_charmap points_more indicator_at indicator_form bytes_form points_form mapping_form is_end body_line_at body_line_of
+unfolding digit_of skip_of begins ends_at byte_at point_digits unicode_at join_at bytes_more bytes_at is_charmap points_more indicator_at is_end body_line_of
 read = refl
 
 -- behind END CHARMAP
@@ -139,5 +139,5 @@ last_forms =
     []
 
 read-last : map after_end_of last_texts ≡ last_forms
-unfolding skip_of begins ends_at is_charmap after_end_at after_end_of
+unfolding skip_of begins ends_at is_charmap after_end_of
 read-last = refl

@@ -1,5 +1,6 @@
 -- Lines after CHARMAP: how their tokens follow one another, and the ranges of a mapping.
-use mathlib.Core.Path.{◌≡◌, refl}
+use Rattle.std.specs.Prelude.{Option, Some, None}
+use mathlib.Core.Path.{◌≡◌}
 use mathlib.Core.Bool.{Bool, true, false}
 use mathlib.Core.List.{List}
 use Prim.Native.Nat.{ℕ, zero, suc, ◌+◌, ◌-◌, ◌<◌, ◌≤◌}
@@ -8,91 +9,38 @@ use borrow.Author.Tests.{leb-true, eqb-false}
 use lib.Dec.{ltb, leb, eqb}
 use lib.ListN.{length, get_or}
 use Rattle.lists.specs.Pick.{pick}
-use Rattle.lists.proofs.Laws.{tests, drop_past}
+use Rattle.lists.proofs.Laws.{drop_past}
 use Rattle.lists.proofs.Cases.{pick-case}
-use Rattle.table.specs.Codes.{packed, AllByte}
+use Rattle.table.specs.Codes.{AllByte}
 use Rattle.table.specs.Text.{ByteSeries, series, broken, byte_of, skip_at, ends_at, byte_at, unicode_at, plus_at, join_at, with_byte, bytes_more, bytes_from, bytes_at, is_charmap}
 use Rattle.lists.specs.Strings.{begins}
 use Rattle.table.specs.Mapping.{BodyLine, no_form, reserved, blank, ending, mapping, points_more, indicator_at, indicator_form, bytes_form, points_form, mapping_form, is_end, body_line_at, body_line_of}
-use Rattle.table.specs.declared.text.Num.{Num}
-use Rattle.table.specs.declared.text.Num.TheVariants.{Val, Bad}
-use Rattle.table.specs.declared.text.ByteRun.{ByteRun}
-use Rattle.table.specs.declared.text.ByteRun.TheVariants.{Bytes, Wrong}
-use Rattle.table.specs.declared.mapping.Mapped.{Mapped}
-use Rattle.table.specs.declared.mapping.Mapped.TheVariants as coded
 use Rattle.table.proofs.TextLaws.{scan, ends-inside, Forth, unicode-forth, byte-forth, SeriesByte, more_bytes}
-use Rattle.table.specs.loops.Coded.{byte_run_of, coded_line}
 
 -- a run of code points: one more, or none, where no `+` may stand
-pub points-more : (f : ℕ) (s : List ℕ) (several q v e : ℕ) → 0 < f → points_more f s several q (Val v e) ≡ points_more (f - 1) s 1 e (unicode_at s (join_at s e))
+pub points-more : (f : ℕ) (s : List ℕ) (several q v e : ℕ) → 0 < f → points_more f s several q (Some (v, e)) ≡ points_more (f - 1) s 1 e (unicode_at s (join_at s e))
 unfolding points_more
 points-more zero s several q v e h = absurd (omega arith)
 points-more (suc f) s several q v e h = let k : suc f - 1 ≡ f = omega arith in rw k
 
-pub points-wrong : (f : ℕ) (s : List ℕ) (several q : ℕ) → plus_at s q ≡ true → points_more f s several q Bad ≡ Bad
+pub points-wrong : (f : ℕ) (s : List ℕ) (several q : ℕ) → plus_at s q ≡ true → points_more f s several q None ≡ None
 unfolding points_more
 points-wrong zero s several q h = rw h
 points-wrong (suc f) s several q h = rw h
 
-pub points-done : (f : ℕ) (s : List ℕ) (several q : ℕ) → plus_at s q ≡ false → points_more f s several q Bad ≡ Val several q
+pub points-done : (f : ℕ) (s : List ℕ) (several q : ℕ) → plus_at s q ≡ false → points_more f s several q None ≡ Some (several, q)
 unfolding points_more
 points-done zero s several q h = rw h
 points-done (suc f) s several q h = rw h
 
 -- nothing stands at a line's end
-pub charmap-none : (s : List ℕ) (p : ℕ) → length s ≤ p → is_charmap s p ≡ false
+pub charmap_none : (s : List ℕ) (p : ℕ) → length s ≤ p → is_charmap s p ≡ false
 unfolding is_charmap begins
-charmap-none s p h = rw (drop_past s p h)
+charmap_none s p h = rw (drop_past s p h)
 
 -- the first byte decides whether a line is a mapping
 pub form-mapping : (s : List ℕ) (p : ℕ) → ends_at s p ≡ false → get_or s p 0 ≡ 60 → body_line_at s p ≡ mapping_form s (unicode_at s p)
-unfolding body_line_at
 form-mapping s p e b = let h = ends-inside s p e in search (scan, e)
-
-pub form-word : (s : List ℕ) (p : ℕ) → ends_at s p ≡ false → (get_or s p 0 ≡ 60 → ⊥) → body_line_at s p ≡ pick (is_charmap s p) reserved (pick (is_end s p) ending no_form)
-unfolding body_line_at
-form-word s p e b = let h = ends-inside s p e in search (scan, e)
-
--- the end of a mapping, as the code holds it
-unfoldable pub coded_end : ℕ → ℕ → ℕ → Bool → Num → Mapped
-coded_end u b n later Bad = coded.NoForm
-coded_end u b n later (Val d q) = pick later coded.Reserved (pick (eqb d 4) coded.Reserved (coded.Line u b n d))
-
-unfoldable pub coded_run : List ℕ → ℕ → ℕ → ByteRun → Mapped
-coded_run s u several Wrong = coded.NoForm
-coded_run s u several (Bytes b n joined q) = coded_end u b n (pick (eqb several 1) true joined) (indicator_at s (skip_at s q))
-
-coded-pick : (t : Bool) (a b : BodyLine) → coded_line (pick t a b) ≡ pick t (coded_line a) (coded_line b)
-coded-pick true a b = refl
-coded-pick false a b = refl
-
-coded-end : (u : ℕ) (l : List ℕ) (later : Bool) (n : Num) → coded_line (indicator_form u l later n) ≡ coded_end u (packed l) (length l) later n
-unfolding indicator_form coded_end
-coded-end u l later Bad = refl
-coded-end u l true (Val d q) = refl
-coded-end u l false (Val d q) = coded-pick (eqb d 4) reserved (mapping u l d)
-
-pub coded-run : (s : List ℕ) (u several : ℕ) (r : ByteSeries) → coded_line (bytes_form s u several r) ≡ coded_run s u several (byte_run_of r)
-unfolding bytes_form coded_run
-coded-run s u several broken = refl
-coded-run s u several (series l plus q) = coded-end u l (pick (eqb several 1) true plus) (indicator_at s (skip_at s q))
-
-module _ (u b n several d q : ℕ) (joined : Bool) where
-  pub end-several : several ≡ 1 → coded_end u b n (pick (eqb several 1) true joined) (Val d q) ≡ coded.Reserved
-  unfolding coded_end
-  end-several h = search tests
-
-  pub end-joined : (several ≡ 1 → ⊥) → joined ≡ true → coded_end u b n (pick (eqb several 1) true joined) (Val d q) ≡ coded.Reserved
-  unfolding coded_end
-  end-joined h j = search (tests, j)
-
-  pub end-four : (several ≡ 1 → ⊥) → joined ≡ false → d ≡ 4 → coded_end u b n (pick (eqb several 1) true joined) (Val d q) ≡ coded.Reserved
-  unfolding coded_end
-  end-four h j k = search (tests, j)
-
-  pub end_line : (several ≡ 1 → ⊥) → joined ≡ false → (d ≡ 4 → ⊥) → coded_end u b n (pick (eqb several 1) true joined) (Val d q) ≡ coded.Line u b n d
-  unfolding coded_end
-  end_line h j k = search (tests, j)
 
 -- the ranges of a mapping
 pub indicator-forth : (s : List ℕ) (at : ℕ) → Forth 5 at (indicator_at s at)
@@ -105,7 +53,7 @@ indicator-forth s at =
     (λ h. pick-case P (ends_at s (skip_at s (at + 2))) _ _ (λ _. (omega (arith, leb-true (byte_of s (at + 1)) 52 h), omega arith)) (λ _. tt))
     (λ _. tt))) (λ _. tt))
   where
-    P : Num → Type 0
+    P : Option (ℕ × ℕ) → Type 0
     P n = Forth 5 at n
 
 abbrev pub FormFits : BodyLine → Type 0
@@ -115,10 +63,9 @@ FormFits blank = Unit {0}
 FormFits ending = Unit {0}
 FormFits (mapping u l d) = AllByte l × (1 ≤ length l) × (u < 16777216) × (d ≤ 3)
 
-indicator-fits : (u : ℕ) (l : List ℕ) (later : Bool) (at : ℕ) (n : Num) → AllByte l → 1 ≤ length l → u < 16777216 → Forth 5 at n → FormFits (indicator_form u l later n)
-unfolding indicator_form
-indicator-fits u l later at Bad a i h k = tt
-indicator-fits u l later at (Val d q) a i h k =
+indicator-fits : (u : ℕ) (l : List ℕ) (later : Bool) (at : ℕ) (n : Option (ℕ × ℕ)) → AllByte l → 1 ≤ length l → u < 16777216 → Forth 5 at n → FormFits (indicator_form u l later n)
+indicator-fits u l later at None a i h k = tt
+indicator-fits u l later at (Some (d, q)) a i h k =
     pick-case FormFits later _ _ (λ _. tt)
     (λ _. pick-case FormFits (eqb d 4) _ _ (λ _. tt) (λ e. let n = eqb-false d 4 e in (a, i, h, omega (arith, k.0))))
 
@@ -132,31 +79,28 @@ unfolding AllByte
 with-fits v p broken h a = tt
 with-fits v p (series l m e) h a = ((h, a), omega arith)
 
-from-fits : (s : List ℕ) (at : ℕ) (n : Num) → Forth 256 at n → SeriesFits (bytes_from s n)
-from-fits s at Bad h = tt
-from-fits s at (Val v e) h = with-fits v false (bytes_more (length s) s e (byte_at s (join_at s e))) h.0 (more_bytes (length s) s e _ (byte_at s (join_at s e)) (byte-forth s (join_at s e)))
+from-fits : (s : List ℕ) (at : ℕ) (n : Option (ℕ × ℕ)) → Forth 256 at n → SeriesFits (bytes_from s n)
+from-fits s at None h = tt
+from-fits s at (Some (v, e)) h = with-fits v false (bytes_more (length s) s e (byte_at s (join_at s e))) h.0 (more_bytes (length s) s e _ (byte_at s (join_at s e)) (byte-forth s (join_at s e)))
 
 bytes-fits : (s : List ℕ) (at : ℕ) → SeriesFits (bytes_at s at)
 unfolding bytes_at
 bytes-fits s at = from-fits s _ (byte_at s (skip_at s at)) (byte-forth s (skip_at s at))
 
 bytes-form : (s : List ℕ) (u several : ℕ) (r : ByteSeries) → SeriesFits r → u < 16777216 → FormFits (bytes_form s u several r)
-unfolding bytes_form
 bytes-form s u several broken a h = tt
 bytes-form s u several (series l plus q) a h = indicator-fits u l (pick (eqb several 1) true plus) _ (indicator_at s (skip_at s q)) a.0 a.1 h (indicator-forth s (skip_at s q))
 
-points-form : (s : List ℕ) (u : ℕ) (n : Num) → u < 16777216 → FormFits (points_form s u n)
-unfolding points_form
-points-form s u Bad h = tt
-points-form s u (Val several q) h = bytes-form s u several (bytes_at s q) (bytes-fits s q) h
+points-form : (s : List ℕ) (u : ℕ) (n : Option (ℕ × ℕ)) → u < 16777216 → FormFits (points_form s u n)
+points-form s u None h = tt
+points-form s u (Some (several, q)) h = bytes-form s u several (bytes_at s q) (bytes-fits s q) h
 
-mapping-form : (s : List ℕ) (at : ℕ) (n : Num) → Forth 16777216 at n → FormFits (mapping_form s n)
-unfolding mapping_form
-mapping-form s at Bad h = tt
-mapping-form s at (Val u q) h = points-form s u (points_more (length s) s 0 q (unicode_at s (join_at s q))) h.0
+mapping-form : (s : List ℕ) (at : ℕ) (n : Option (ℕ × ℕ)) → Forth 16777216 at n → FormFits (mapping_form s n)
+mapping-form s at None h = tt
+mapping-form s at (Some (u, q)) h = points-form s u (points_more (length s) s 0 q (unicode_at s (join_at s q))) h.0
 
 mapped-fits : (s : List ℕ) → FormFits (body_line_of s)
-unfolding body_line_of body_line_at
+unfolding body_line_of
 mapped-fits s =
     pick-case FormFits (ends_at s (skip_at s 0)) _ _ (λ _. tt)
     (λ _. pick-case FormFits (eqb (byte_of s (skip_at s 0)) 60) _ _ (λ _. mapping-form s _ (unicode_at s (skip_at s 0)) (unicode-forth s (skip_at s 0)))

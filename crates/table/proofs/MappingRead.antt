@@ -1,4 +1,5 @@
 -- Lines of code points, bytes and an indicator: what the grammar has is read as what it writes, and what is read so the grammar has.
+use Rattle.std.specs.Prelude.{Option, Some, None}
 use Prim.Native.Nat.{ℕ, ◌+◌, ◌-◌, ◌<◌, ◌≤◌}
 use mathlib.Core.Path.{◌≡◌, refl, sym, ap, ◌∙◌}
 use mathlib.Core.Logic.{◌⊎◌, inl, inr}
@@ -15,8 +16,6 @@ use Rattle.table.specs.Meaning.{Line}
 use Rattle.table.specs.Grammar.{Point, Closes, Indicator, AnyMapping, MappingLine, UnbuiltMapping}
 use Rattle.table.specs.Text.{byte_of, skip_at, ends_at, unicode_at, join_at, ByteSeries, series, broken, with_byte, bytes_at}
 use Rattle.table.specs.Mapping.{BodyLine, no_form, reserved, blank, ending, mapping, indicator_at, indicator_form, bytes_form, points_form, mapping_form, body_line_of}
-use Rattle.table.specs.declared.text.Num.{Num}
-use Rattle.table.specs.declared.text.Num.TheVariants.{Val, Bad}
 use Rattle.table.proofs.TextLaws.{get_d-in, ends-inside}
 use Rattle.table.proofs.MappingLaws.{form-mapping}
 use Rattle.table.proofs.Tokens.{strip, first, closes, drop⇒byte_of-+, drop⇒byte_of, drop⇒ends_at, drop⇒skip_at, at_byte, token-front, Token⇒skip_at, drop⇒Token, closes-strip, Closes⇒ends_at, ends_at⇒Closes, closed-first}
@@ -29,7 +28,7 @@ indicator-most : (d : ℕ) (t r : List ℕ) → Indicator d t r → d ≤ 4
 indicator-most d t r (inl b) = b.0
 indicator-most d t r (inr b) = omega (arith, b.0)
 
-bar-reads : (s : List ℕ) (at d : ℕ) (r : List ℕ) → drop at s ≡ 124 ∷ (48 + d) ∷ r → d ≤ 4 → Closes r → indicator_at s at ≡ Val d (at + 2)
+bar-reads : (s : List ℕ) (at d : ℕ) (r : List ℕ) → drop at s ≡ 124 ∷ (48 + d) ∷ r → d ≤ 4 → Closes r → indicator_at s at ≡ Some (d, at + 2)
 unfolding indicator_at
 bar-reads s at d r h small k =
     let t : List ℕ = 124 ∷ (48 + d) ∷ r in
@@ -37,16 +36,16 @@ bar-reads s at d r h small k =
     let e = Closes⇒ends_at s (at + 2) r (drop-+ s at 2 t h) k in
     rw (drop⇒ends_at s at t h, drop⇒byte_of s at t h, drop⇒byte_of-+ s at 1 t h, le-ltb (48 + d) 48 (omega arith), le-leb (48 + d) 52 (omega arith), e, v)
 
-none_reads : (s : List ℕ) (at : ℕ) → ends_at s at ≡ true → indicator_at s at ≡ Val 0 at
+none_reads : (s : List ℕ) (at : ℕ) → ends_at s at ≡ true → indicator_at s at ≡ Some (0, at)
 unfolding indicator_at
 none_reads s at e = rw e
 
 indicator-reads : (s : List ℕ) (q d : ℕ) (t r : List ℕ) → Indicator d t r → Closes r → drop q s ≡ t
-    → (e : ℕ) × (indicator_at s (skip_at s q) ≡ Val d e)
+    → (e : ℕ) × (indicator_at s (skip_at s q) ≡ Some (d, e))
 indicator-reads s q d t r (inl (small, b)) k h =
     (skip_at s q + 2, bar-reads s (skip_at s q) d r (Token⇒skip_at (124 ∷ (48 + d) ∷ []) t r (refl, refl) b s q h) small k)
 indicator-reads s q d t r (inr (z, e)) k h =
-    (skip_at s q, none_reads s (skip_at s q) (Closes⇒ends_at s q r (h ∙ e) k) ∙ ap (λ (x : ℕ). Val x (skip_at s q)) (sym z))
+    (skip_at s q, none_reads s (skip_at s q) (Closes⇒ends_at s q r (h ∙ e) k) ∙ ap (λ (x : ℕ). Some (x, skip_at s q)) (sym z))
 
 -- behind the bytes stands neither a byte nor a `+`
 behind-first : (x d : ℕ) (t r : List ℕ) → Indicator d t r → Closes r → x < 256 → (x ≡ 35 → ⊥) → (x ≡ 124 → ⊥) → first (strip t) ≡ x → ⊥
@@ -55,9 +54,9 @@ behind-first x d t r (inr (z, y)) k h n m e =
     closed-first x (strip r) (closes-strip r k) h n (sym (ap (λ (l : List ℕ). first (strip l)) y) ∙ e)
 
 -- what is read behind q, if anything, is an indicator that closes the line
-abbrev TailOf : List ℕ → ℕ → Num → Type 0
-TailOf s q Bad = Unit {0}
-TailOf s q (Val d e) = (r : List ℕ) × Indicator d (drop q s) r × Closes r
+abbrev TailOf : List ℕ → ℕ → Option (ℕ × ℕ) → Type 0
+TailOf s q None = Unit {0}
+TailOf s q (Some (d, e)) = (r : List ℕ) × Indicator d (drop q s) r × Closes r
 
 indicator-written : (s : List ℕ) (q : ℕ) → TailOf s q (indicator_at s (skip_at s q))
 unfolding indicator_at
@@ -76,10 +75,10 @@ indicator-written s q =
     b : ℕ
     b = byte_of s (at + 1)
 
-    P : Num → Type 0
+    P : Option (ℕ × ℕ) → Type 0
     P n = TailOf s q n
 
-    made : byte_of s at ≡ 124 → 48 ≤ b → b ≤ 52 → Closes (drop (at + 2) s) → P (Val (b - 48) (at + 2))
+    made : byte_of s at ≡ 124 → 48 ≤ b → b ≤ 52 → Closes (drop (at + 2) s) → P (Some (b - 48, at + 2))
     made i j k c =
         let d : ℕ = b - 48 in
         let e0 = at_byte s at (at + 1) 124 refl i (λ x. omega arith) in
@@ -94,15 +93,13 @@ series_form s (series [] joined e) = no_form
 series_form s (series (u ∷ us) joined e) = bytes_form s u (several 0 us) (bytes_at s e)
 
 counted-form : (s : List ℕ) (u : ℕ) (r : ByteSeries) → points_form s u (counted 0 r) ≡ series_form s (with_byte u false r)
-unfolding points_form
 counted-form s u broken = refl
 counted-form s u (series us joined e) = refl
 
-points-form : (s : List ℕ) (n : Num) → mapping_form s n ≡ series_form s (series_from unicode_at s n)
-unfolding mapping_form
-points-form s Bad = refl
-points-form s (Val u q) =
-    let n : Num = unicode_at s (join_at s q) in
+points-form : (s : List ℕ) (n : Option (ℕ × ℕ)) → mapping_form s n ≡ series_form s (series_from unicode_at s n)
+points-form s None = refl
+points-form s (Some (u, q)) =
+    let n : (Option (ℕ × ℕ)) = unicode_at s (join_at s q) in
     ap (points_form s u) (points-counted (length s) s 0 q n) ∙ counted-form s u (more_at unicode_at (length s) s q n)
 
 -- what is read of code points, bytes, whether a `+` stands among the bytes, and an indicator
@@ -112,9 +109,8 @@ form_of (u ∷ us) c plus d = pick (pick (eqb (several 0 us) 1) true plus) reser
 
 -- ## What the grammar has is read
 
-parts-form : (s us c : List ℕ) (joined plus : Bool) (d q e z : ℕ) → bytes_at s q ≡ series c plus e → indicator_at s (skip_at s e) ≡ Val d z
+parts-form : (s us c : List ℕ) (joined plus : Bool) (d q e z : ℕ) → bytes_at s q ≡ series c plus e → indicator_at s (skip_at s e) ≡ Some (d, z)
     → series_form s (series us joined q) ≡ form_of us c plus d
-unfolding bytes_form indicator_form
 parts-form s [] c joined plus d q e z b i = refl
 parts-form s (u ∷ us) c joined plus d q e z b i = rw (b, i)
 
@@ -177,16 +173,14 @@ form-means (u ∷ []) c joined plus d s m =
     (omega arith, rw (p, m.points.2.0) at m)))
 
 module _ (s : List ℕ) (u : ℕ) (us : List ℕ) (joined : Bool) (q : ℕ) (p : SeriesOf Point s 0 (series (u ∷ us) joined q)) where
-  end-means : (c : List ℕ) (plus : Bool) (e : ℕ) (n : Num) → RunOf s q (series c plus e) → TailOf s e n
+  end-means : (c : List ℕ) (plus : Bool) (e : ℕ) (n : Option (ℕ × ℕ)) → RunOf s q (series c plus e) → TailOf s e n
       → MappingMeans s (indicator_form u c (pick (eqb (several 0 us) 1) true plus) n)
-  unfolding indicator_form
-  end-means c plus e Bad b i = tt
-  end-means c plus e (Val d z) b (r, i, k) =
+  end-means c plus e None b i = tt
+  end-means c plus e (Some (d, z)) b (r, i, k) =
       form-means (u ∷ us) c joined plus d s
       (record { behind-points = drop q s; behind-bytes = drop e s; behind-all = r; points = p; bytes = b; indicator = i; closed = k })
 
   bytes-means : (r : ByteSeries) → RunOf s q r → MappingMeans s (bytes_form s u (several 0 us) r)
-  unfolding bytes_form
   bytes-means broken b = tt
   bytes-means (series c plus e) b = end-means c plus e (indicator_at s (skip_at s e)) b (indicator-written s e)
 

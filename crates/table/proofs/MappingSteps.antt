@@ -1,4 +1,5 @@
 -- After CHARMAP: the conditions on a mapping by its numbers, and what one mapping more leaves in memory; those at END CHARMAP.
+use Rattle.std.specs.Prelude.{Ok, Err}
 use Prim.Native.Nat.{ℕ, ◌+◌, ◌-◌, ◌*◌, ◌/◌, ◌<◌, ◌≤◌}
 use mathlib.Core.Path.{◌≡◌, refl, sym, ap, subst, ◌∙◌}
 use mathlib.Core.Bool.{Bool, true, false, not}
@@ -28,16 +29,14 @@ use Rattle.table.specs.Keys.{min_of, max_of}
 use Rattle.table.specs.loops.Backed.{backed}
 use Rattle.table.proofs.Neighbours.{backed-lines}
 use Rattle.table.specs.loops.Search.{read_taken, write_taken, AllApart, Kept}
-use Rattle.table.specs.Numbers.{cond, lowest, n20, n21, n22, n23, n24, n25, n26, n28, mapping_conditions, end_conditions}
+use Rattle.table.specs.Numbers.{cond, lowest, n20, n21, n22, n23, n24, n25, n26, n28, mapping_conditions, end_conditions, Verdict}
 use Rattle.table.specs.Load.{judged, reading, line_as}
-use Rattle.table.specs.loops.Progress.{keys_in, GoodLine, Holding, StepTaken, progress}
+use Rattle.table.specs.loops.Progress.{keys_in, GoodLine, Holding, StepTaken}
 use Rattle.table.specs.declared.header.Head.{Head}
 use Rattle.table.specs.declared.load.Refusal.{Refusal}
 use Rattle.table.specs.declared.load.Refusal.TheVariants.{NoScalar, NoSuchCode, LeadingZero, NoSubchar1, BytesTaken, PointTaken, TooMany, NotReadBack}
-use Rattle.table.specs.declared.load.Verdict.{Verdict}
-use Rattle.table.specs.declared.load.Verdict.TheVariants.{Fine, Refuse}
+use Rattle.table.specs.declared.load.Phase.{Phase}
 use Rattle.table.specs.declared.load.Phase.TheVariants.{Mappings, Ended}
-use Rattle.table.specs.declared.load.LineOutcome.TheVariants as outcome
 use Rattle.table.proofs.Packing.{packed-fits, unpacked-packed}
 use Rattle.table.proofs.Sorted.{sorted-rising, sorted_apart}
 use Rattle.table.proofs.IndexOrder.{length-order_of}
@@ -56,7 +55,7 @@ use Rattle.table.proofs.OneMore.{lines-over}
 
 -- 20 to 23 by T6, T5, T7, T8
 abbrev verdict_of : Bool → Bool → Bool → Bool → Verdict
-verdict_of a b c d = pick (not a) (Refuse NoScalar) (pick (not b) (Refuse NoSuchCode) (pick (not c) (Refuse LeadingZero) (pick (not d) (Refuse NoSubchar1) Fine)))
+verdict_of a b c d = pick (not a) (Err NoScalar) (pick (not b) (Err NoSuchCode) (pick (not c) (Err LeadingZero) (pick (not d) (Err NoSubchar1) (Ok tt))))
 
 abbrev pub own_verdict : Rows → Head → Line → Verdict
 own_verdict step h l = lowest (cond NoScalar (n20 l) ∷ cond NoSuchCode (not (t5 step h.min h.max l)) ∷ cond LeadingZero (n22 l) ∷ cond NoSubchar1 (n23 (keys_in h) l) ∷ [])
@@ -86,7 +85,7 @@ module _ (step : Rows) (h : Head) (u d : ℕ) (c : List ℕ) (bits len : ℕ) (b
   own_at : (p q r s : Bool) → t6 line ≡ p → t5 step h.min h.max line ≡ q → t7 line ≡ r → t8 (sub1_in h.sub1) line ≡ s → verdict_of p q r s ≡ own_verdict step h line
   own_at p q r s ep eq er es = sym (own_is step h line ∙ (λ t. verdict_of (ep t) (eq t) (er t) (es t)))
 
-  pub own_verdict-20 : t6 line ≡ false → Refuse NoScalar ≡ own_verdict step h line
+  pub own_verdict-20 : t6 line ≡ false → Err NoScalar ≡ own_verdict step h line
   own_verdict-20 e = own_at false (t5 step h.min h.max line) (t7 line) (t8 (sub1_in h.sub1) line) e refl refl refl
 
   -- a `|2` line
@@ -96,23 +95,23 @@ module _ (step : Rows) (h : Head) (u d : ℕ) (c : List ℕ) (bits len : ℕ) (b
         own_at true true true b scalar (ap (λ (x : ℕ). t5 step h.min h.max (line_as u c x)) two) (ap (λ (x : ℕ). t7 (line_as u c x)) two)
         (ap (λ (x : ℕ). t8 (sub1_in h.sub1) (line_as u c x)) two ∙ e)
 
-    pub own_verdict-23-none : h.sub1 ≡ 0 → Refuse NoSubchar1 ≡ own_verdict step h line
+    pub own_verdict-23-none : h.sub1 ≡ 0 → Err NoSubchar1 ≡ own_verdict step h line
     own_verdict-23-none e = by_8 false (ap (λ (n : ℕ). t8_byte (sub1_in n) c) e)
 
     module _ (given : h.sub1 ≡ 0 → ⊥) where
       byte-is : t8_byte (sub1_in h.sub1) c ≡ pick (eqb (length c) 1) (eqb (packed c / 16777216) (h.sub1 - 1)) false
       byte-is = ap (λ (b : Bool). t8_byte (pick b none (some (h.sub1 - 1))) c) (ne_eqb h.sub1 0 given) ∙ same-one c (h.sub1 - 1) bytes
 
-      pub own_verdict-23-long : (len ≡ 1 → ⊥) → Refuse NoSubchar1 ≡ own_verdict step h line
+      pub own_verdict-23-long : (len ≡ 1 → ⊥) → Err NoSubchar1 ≡ own_verdict step h line
       own_verdict-23-long n = by_8 false (byte-is ∙ pick_no (eqb (length c) 1) _ false (ne_eqb (length c) 1 (λ e. n (el ∙ e))))
 
       byte_one : len ≡ 1 → t8_byte (sub1_in h.sub1) c ≡ eqb (packed c / 16777216) (h.sub1 - 1)
       byte_one e = byte-is ∙ pick_yes (eqb (length c) 1) _ false (eq-eqb (length c) 1 (sym el ∙ e))
 
-      pub own_verdict-23-other : len ≡ 1 → (bits / 16777216 ≡ h.sub1 - 1 → ⊥) → Refuse NoSubchar1 ≡ own_verdict step h line
+      pub own_verdict-23-other : len ≡ 1 → (bits / 16777216 ≡ h.sub1 - 1 → ⊥) → Err NoSubchar1 ≡ own_verdict step h line
       own_verdict-23-other e n = by_8 false (byte_one e ∙ ne_eqb (packed c / 16777216) (h.sub1 - 1) (λ q. n (ap (λ (b : ℕ). b / 16777216) eb ∙ q)))
 
-      pub own_verdict-subchar1 : len ≡ 1 → bits / 16777216 ≡ h.sub1 - 1 → Fine ≡ own_verdict step h line
+      pub own_verdict-subchar1 : len ≡ 1 → bits / 16777216 ≡ h.sub1 - 1 → Ok tt ≡ own_verdict step h line
       own_verdict-subchar1 e q = by_8 true (byte_one e ∙ eq-eqb (packed c / 16777216) (h.sub1 - 1) (ap (λ (b : ℕ). b / 16777216) (sym eb) ∙ q))
 
   -- the others
@@ -123,7 +122,7 @@ module _ (step : Rows) (h : Head) (u d : ℕ) (c : List ℕ) (bits len : ℕ) (b
     t5-has_code : t5 step h.min h.max line ≡ pick (leb h.min (length c)) (pick (leb (length c) h.max) (t5_kind u (end_kind step 0 c)) false) false
     t5-has_code = pick_yes (has_code line) _ true (has_code-is_substituted line (omega arith) ∙ pick_no (eqb d 2) false true (ne_eqb d 2 other))
 
-    pub own_verdict-21-long : h.max ≤ 4 → 4 < len → Refuse NoSuchCode ≡ own_verdict step h line
+    pub own_verdict-21-long : h.max ≤ 4 → 4 < len → Err NoSuchCode ≡ own_verdict step h line
     own_verdict-21-long m n =
         own_verdict-t5-t7 false (t7 line) (t5-has_code ∙ ap (λ (b : Bool). pick (leb h.min (length c)) (pick b (t5_kind u (end_kind step 0 c)) false) false) (lt-leb (length c) h.max (omega arith)) ∙ pick-false-false (leb h.min (length c))) refl
 
@@ -133,13 +132,13 @@ module _ (step : Rows) (h : Head) (u d : ℕ) (c : List ℕ) (bits len : ℕ) (b
           let code : c ≡ unpacked len bits = sym (unpacked-packed c bytes (omega arith)) ∙ (λ i. unpacked (sym el i) (sym eb i)) in
           t5-has_code ∙ (λ i. pick (leb h.min (sym el i)) (pick (leb (sym el i) h.max) (t5_kind u (end_kind step 0 (code i))) false) false) ∙ sym is
 
-      pub own_verdict-21 : t ≡ false → Refuse NoSuchCode ≡ own_verdict step h line
+      pub own_verdict-21 : t ≡ false → Err NoSuchCode ≡ own_verdict step h line
       own_verdict-21 e = own_verdict-t5-t7 false (t7 line) (code-5 ∙ e) refl
 
-      pub own_verdict-only-read : t ≡ true → d ≡ 3 → Fine ≡ own_verdict step h line
+      pub own_verdict-only-read : t ≡ true → d ≡ 3 → Ok tt ≡ own_verdict step h line
       own_verdict-only-read e three = own_verdict-t5-t7 true true (code-5 ∙ e) (ap (λ (x : ℕ). t7 (line_as u c x)) three)
 
-      pub own_verdict-one-byte : t ≡ true → len ≡ 1 → Fine ≡ own_verdict step h line
+      pub own_verdict-one-byte : t ≡ true → len ≡ 1 → Ok tt ≡ own_verdict step h line
       own_verdict-one-byte e one =
           own_verdict-t5-t7 true true (code-5 ∙ e) (ap (λ (b : Bool). pick (writes_code line) (pick b true (pick (eqb (get_or c 0 0) 0) false true)) true) (le-leb (length c) 1 (omega arith)) ∙ pick-true-true (writes_code line))
 
@@ -147,14 +146,14 @@ module _ (step : Rows) (h : Head) (u d : ℕ) (c : List ℕ) (bits len : ℕ) (b
         t7-long : t7 line ≡ pick (eqb (get_or c 0 0) 0) false true
         t7-long = pick_yes (writes_code line) _ true (writes-code line (omega arith) other three) ∙ pick_no (leb (length c) 1) true _ (lt-leb (length c) 1 (omega arith))
 
-        pub own_verdict-22 : bits / 16777216 ≡ 0 → Refuse LeadingZero ≡ own_verdict step h line
+        pub own_verdict-22 : bits / 16777216 ≡ 0 → Err LeadingZero ≡ own_verdict step h line
         own_verdict-22 z = own_verdict-t5-t7 true false (code-5 ∙ e) (t7-long ∙ ap (λ (b : Bool). pick b false true) (eq-eqb (get_or c 0 0) 0 (sym (first_byte c bytes) ∙ ap (λ (b : ℕ). b / 16777216) (sym eb) ∙ z)))
 
-        pub own_verdict-fine : (bits / 16777216 ≡ 0 → ⊥) → Fine ≡ own_verdict step h line
+        pub own_verdict-fine : (bits / 16777216 ≡ 0 → ⊥) → Ok tt ≡ own_verdict step h line
         own_verdict-fine z = own_verdict-t5-t7 true true (code-5 ∙ e) (t7-long ∙ ap (λ (b : Bool). pick b false true) (ne_eqb (get_or c 0 0) 0 (λ q. z (ap (λ (b : ℕ). b / 16777216) eb ∙ first_byte c bytes ∙ q))))
 
 -- refused is not fine
-pub refuse-fine : (x : Refusal) → Refuse x ≡ Fine → ⊥
+pub refuse-fine : (x : Refusal) → ◌≡◌ {A = Verdict} (Err x) (Ok tt) → ⊥
 refuse-fine x e = let z : ◌≡◌ {A = ℕ} 0 1 = cc in omega arith
 
 pub point-small : (u : ℕ) → t6 (line_as u [] 0) ≡ true → u < 2097152
@@ -166,17 +165,17 @@ point-small u h =
 
 -- own conditions first, then the others
 abbrev then_by : Verdict → Verdict → Verdict
-then_by (Refuse x) w = Refuse x
-then_by Fine w = w
+then_by (Err x) w = Err x
+then_by (Ok tt) w = w
 
-then_by_lem : (a b c d : Bool) (w : Verdict) → pick (not a) (Refuse NoScalar) (pick (not b) (Refuse NoSuchCode) (pick (not c) (Refuse LeadingZero) (pick (not d) (Refuse NoSubchar1) w))) ≡ then_by (verdict_of a b c d) w
+then_by_lem : (a b c d : Bool) (w : Verdict) → pick (not a) (Err NoScalar) (pick (not b) (Err NoSuchCode) (pick (not c) (Err LeadingZero) (pick (not d) (Err NoSubchar1) w))) ≡ then_by (verdict_of a b c d) w
 then_by_lem true true true true w = refl
 then_by_lem true true true false w = refl
 then_by_lem true true false d w = refl
 then_by_lem true false c d w = refl
 then_by_lem false b c d w = refl
 
-fine-first : (a b c d : Bool) → verdict_of a b c d ≡ Fine → a ≡ true
+fine-first : (a b c d : Bool) → verdict_of a b c d ≡ Ok tt → a ≡ true
 fine-first true b c d e = refl
 fine-first false b c d e = absurd (refuse-fine NoScalar e)
 
@@ -206,24 +205,24 @@ module _ (lim : Limits) (h : Head) (n : ℕ) (rows : List (List Cell)) (ls : Lis
 
   -- END CHARMAP: T10 by neighbours
   module _ (b : Bool) (is : b ≡ backed (stored_list (take n c) (take n i))) where
-    lowest-end : (v : Bool) → b ≡ v → lowest (end_conditions ls) ≡ pick (not v) (Refuse NotReadBack) Fine
+    lowest-end : (v : Bool) → b ≡ v → lowest (end_conditions ls) ≡ pick (not v) (Err NotReadBack) (Ok tt)
     unfolding lowest n28
     lowest-end v e =
-        ap (λ (x : Bool). pick (not x) (Refuse NotReadBack) Fine)
+        ap (λ (x : Bool). pick (not x) (Err NotReadBack) (Ok tt))
         (sym (is ∙ ap backed held-stored ∙ backed-lines ls goods held.lines-apart) ∙ e)
 
-    pub end-taken : b ≡ true → StepTaken lim (judged (lowest (end_conditions ls)) (reading Ended (keys_in h) rows ls)) (outcome.On (progress Ended h n)) (slices s c i o)
+    pub end-taken : b ≡ true → StepTaken lim (judged (lowest (end_conditions ls)) (reading Ended (keys_in h) rows ls)) (Ok tt) Ended h n (slices s c i o)
     end-taken e =
-        subst (λ (v : Verdict). StepTaken lim (judged v (reading Ended (keys_in h) rows ls)) (outcome.On (progress Ended h n)) (slices s c i o))
-        (sym (lowest-end true e)) (same_taken lim Ended h n rows ls (slices s c i o) held)
+        subst (λ (v : Verdict). StepTaken lim (judged v (reading Ended (keys_in h) rows ls)) (Ok tt) Ended h n (slices s c i o))
+        (sym (lowest-end true e)) (same_taken lim Ended Ended h n rows ls (slices s c i o) refl held)
 
-    pub end_refused : b ≡ false → StepTaken lim (judged (lowest (end_conditions ls)) (reading Ended (keys_in h) rows ls)) (outcome.Stop NotReadBack) (slices s c i o)
-    end_refused e =
-        refused-taken lim (lowest (end_conditions ls)) (reading Ended (keys_in h) rows ls) NotReadBack (slices s c i o) (lowest-end false e)
+    pub end_refused : (p : Phase) → b ≡ false → StepTaken lim (judged (lowest (end_conditions ls)) (reading Ended (keys_in h) rows ls)) (Err NotReadBack) p h n (slices s c i o)
+    end_refused p e =
+        refused-taken lim (lowest (end_conditions ls)) (reading Ended (keys_in h) rows ls) NotReadBack p h n (slices s c i o) (lowest-end false e)
 
   module _ (l : Line) (own : Verdict) (own-by : own ≡ own_verdict (step_at (take (needed lim) s)) h l) where
     abbrev last : Verdict
-    last = pick (n24 ls l) (Refuse BytesTaken) (pick (n25 ls l) (Refuse PointTaken) (pick (n26 lim ls) (Refuse TooMany) Fine))
+    last = pick (n24 ls l) (Err BytesTaken) (pick (n25 ls l) (Err PointTaken) (pick (n26 lim ls) (Err TooMany) (Ok tt)))
 
     verdict : lowest (mapping_conditions lim (keys_in h) rows ls l) ≡ then_by own last
     unfolding lowest mapping_conditions n20 n21 n22 n23
@@ -233,11 +232,11 @@ module _ (lim : Limits) (h : Head) (n : ℕ) (rows : List (List Cell)) (ls : Lis
         ∙ ap (λ (step : Rows). then_by (verdict_of (t6 l) (t5 step h.min h.max l) (t7 l) (t8 (sub1_in h.sub1) l)) last) (sym (steps-filled (needed lim) rows (take (needed lim) s) held.states-are))
         ∙ ap (λ (v : Verdict). then_by v last) (sym (own-by ∙ own_is (step_at (take (needed lim) s)) h l))
 
-    pub own_verdict⇒lowest : (x : Refusal) → own ≡ Refuse x → lowest (mapping_conditions lim (keys_in h) rows ls l) ≡ Refuse x
+    pub own_verdict⇒lowest : (x : Refusal) → own ≡ Err x → lowest (mapping_conditions lim (keys_in h) rows ls l) ≡ Err x
     own_verdict⇒lowest x e = verdict ∙ ap (λ (v : Verdict). then_by v last) e
 
     -- none of 20 to 23 holds
-    module _ (fine : own ≡ Fine) (digit : l.indicator ≤ 3) (bytes : AllByte l.code) (least : 1 ≤ length l.code) (most : length l.code ≤ 4) where
+    module _ (fine : own ≡ Ok tt) (digit : l.indicator ≤ 3) (bytes : AllByte l.code) (least : 1 ≤ length l.code) (most : length l.code ≤ 4) where
       abbrev held-now : List Stored
       held-now = stored_list (take n c) (take n i)
 
@@ -261,31 +260,31 @@ module _ (lim : Limits) (h : Head) (n : ℕ) (rows : List (List Cell)) (ls : Lis
       full_is = lines-over lim ls ∙ ap (leb lim.mappings) held.lines-count
 
       pub lowest-mapping : (e : Stored) (v : Verdict) → e ≡ stored_of l
-          → v ≡ pick (read_taken e held-now) (Refuse BytesTaken) (pick (write_taken e held-now) (Refuse PointTaken) (pick (leb lim.mappings n) (Refuse TooMany) Fine))
+          → v ≡ pick (read_taken e held-now) (Err BytesTaken) (pick (write_taken e held-now) (Err PointTaken) (pick (leb lim.mappings n) (Err TooMany) (Ok tt)))
           → lowest (mapping_conditions lim (keys_in h) rows ls l) ≡ v
       lowest-mapping e v q is =
           verdict ∙ ap (λ (w : Verdict). then_by w last) fine
-          ∙ (λ t. pick (reads-taken t) (Refuse BytesTaken) (pick (writes-taken t) (Refuse PointTaken) (pick (full_is t) (Refuse TooMany) Fine)))
-          ∙ ap (λ (x : Stored). pick (read_taken x held-now) (Refuse BytesTaken) (pick (write_taken x held-now) (Refuse PointTaken) (pick (leb lim.mappings n) (Refuse TooMany) Fine))) (sym q)
+          ∙ (λ t. pick (reads-taken t) (Err BytesTaken) (pick (writes-taken t) (Err PointTaken) (pick (full_is t) (Err TooMany) (Ok tt))))
+          ∙ ap (λ (x : Stored). pick (read_taken x held-now) (Err BytesTaken) (pick (write_taken x held-now) (Err PointTaken) (pick (leb lim.mappings n) (Err TooMany) (Ok tt)))) (sym q)
           ∙ sym is
 
-      pub more-taken : (e : Stored) (c' i' o' : List ℕ) → e ≡ stored_of l → lowest (mapping_conditions lim (keys_in h) rows ls l) ≡ Fine → Kept lim.mappings (n + 1) c' i' o'
+      pub more-taken : (e : Stored) (p : Phase) (c' i' o' : List ℕ) → p ≡ Mappings → e ≡ stored_of l → lowest (mapping_conditions lim (keys_in h) rows ls l) ≡ Ok tt → Kept lim.mappings (n + 1) c' i' o'
           → stored_list (take (n + 1) c') (take (n + 1) i') ≡ insert less e held-now
-          → StepTaken lim (judged (lowest (mapping_conditions lim (keys_in h) rows ls l)) (reading Mappings (keys_in h) rows (l ∷ ls))) (outcome.On (progress Mappings h (n + 1))) (slices s c' i' o')
+          → StepTaken lim (judged (lowest (mapping_conditions lim (keys_in h) rows ls l)) (reading Mappings (keys_in h) rows (l ∷ ls))) (Ok tt) p h (n + 1) (slices s c' i' o')
       unfolding mapping_conditions n24 n25 t9
-      more-taken e c' i' o' q v k ins =
+      more-taken e p c' i' o' ep q v k ins =
           let none = lowest-fine (mapping_conditions lim (keys_in h) rows ls l) v in
           let es : k.es ≡ sorted (l ∷ ls) = sym (entries-es lim.mappings (n + 1) c' i' o' k) ∙ ins ∙ (λ t. insert less (q t) (held-stored t)) ∙ sym (sorted_more l ls) in
           let m = held.lines-count in
           let count : n + 1 ≡ length (l ∷ ls) = omega arith in
-          fine-taken lim (lowest (mapping_conditions lim (keys_in h) rows ls l)) (reading Mappings (keys_in h) rows (l ∷ ls)) h (progress Mappings h (n + 1)) (slices s c' i' o') v (ap (λ (z : ℕ). progress Mappings h z) count) refl
+          fine-taken lim (lowest (mapping_conditions lim (keys_in h) rows ls l)) (reading Mappings (keys_in h) rows (l ∷ ls)) p h (n + 1) (slices s c' i' o') v ep refl
           (record {
             head-proper = held.head-proper;
             rows-count = held.rows-count;
             rows_few = held.rows_few;
             rows-full = held.rows-full;
             states-are = held.states-are;
-            lines-count = refl;
+            lines-count = sym count;
             lines-good = (good, held.lines-good);
             lines-apart = unless-yes (any_of (λ x. shares_bytes x l) ls) _ none.1.1.1.1.0 (unless-yes (any_of (λ x. shares_point x l) ls) _ none.1.1.1.1.1.0 held.lines-apart);
             stored = subst (λ (z : List Stored). SlicesHold lim.mappings z c' i' o') es k.stored;

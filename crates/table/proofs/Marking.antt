@@ -9,6 +9,7 @@ use lib.Dec.{ltb, eqb}
 use lib.ListN.{length, get_or, take, set, replicate, get_or-replicate}
 use lib.Seq.{get_or-set_same, get_or-set_other}
 use borrow.Author.Tests.{ltb-true, ltb-false, eqb-true, eqb-false, lt-ltb, le-ltb, eq-eqb, ne_eqb}
+use Rattle.std.specs.Prelude.{Some, None}
 use Rattle.lists.specs.Pick.{pick}
 use Rattle.lists.specs.Order.{up_from}
 use Rattle.lists.proofs.Laws.{clash, ¬true⇒false}
@@ -19,7 +20,7 @@ use Rattle.table.specs.Limits.{limits, needed}
 use Rattle.table.specs.Cells.{cell_step, cell_in}
 use Rattle.table.specs.States.{step_at, leads_to, within, Rows}
 use Rattle.lists.specs.Tests.{all_below, some_below}
-use Rattle.table.specs.loops.LeadMarks.{marked, marked_within, leads_on, lead_mark, lead_marks, no_marks}
+use Rattle.table.specs.loops.LeadMarks.{marked, marked_within, leads_on, lead_mark, lead_marks}
 use Rattle.table.specs.declared.states.Step.{Step}
 use Rattle.table.specs.declared.states.Step.TheVariants.{Illegal, Ends, Leads}
 use Rattle.lists.proofs.Tests.{all_below-yes⁻, all_below-ext, all_below-yes⁺, all_below-one, all_below-swap, some_below-yes⁺, some_below-ext, some_below-no⁺, some_below-implies}
@@ -108,13 +109,14 @@ seen_all marks l n long s =
         (λ b q. rw (le-ltb (j / limits.rows * 256 + b) (n * 256) (omega arith)))
         ∙ sym (pick_no (ltb (j / limits.rows) n) _ false u)
 
--- what is handed back: no marks where a cell is not of the form
-pub marks-none : (ok : Bool) (m : List Bool) → false ≡ ok → (false ≡ ok) × (replicate (limits.rows * limits.rows) false ≡ pick ok m no_marks)
-unfolding no_marks
-marks-none ok m e = (e, sym (pick_no ok m no_marks (sym e)))
+-- what is handed back says whether all cells are of the form
+pub marks-none : (ok : Bool) (m : List Bool) → None ≡ pick ok (Some m) None → ok ≡ false
+marks-none true m e = absurd (let z : ◌≡◌ {A = ℕ} 0 1 = cc in omega arith)
+marks-none false m e = refl
 
-pub marks-all : (ok : Bool) (marks m : List Bool) → true ≡ ok → marks ≡ m → (true ≡ ok) × (marks ≡ pick ok m no_marks)
-marks-all ok marks m e h = (e, h ∙ sym (pick_yes ok m no_marks (sym e)))
+pub marks-some : (ok : Bool) (marks m : List Bool) → Some marks ≡ pick ok (Some m) None → (ok ≡ true) × (marks ≡ m)
+marks-some true marks m e = (refl, cc)
+marks-some false marks m e = absurd (let z : ◌≡◌ {A = ℕ} 0 1 = cc in omega arith)
 
 -- asking w of every row marked is asking it of every row led to
 asked-one : (w : ℕ → Bool) (x : Step) → ((m : ℕ) → x ≡ Leads m → m < limits.rows) → all_below (λ k. pick (leads_on k x) (w k) true) limits.rows ≡ leads_to w x

@@ -9,6 +9,7 @@ use lib.Dec.{ltb, eqb}
 use lib.ListN.{length, get_or, drop, set, replicate, get_or-replicate, get_or-eq_default}
 use lib.Seq.{get_or-set_same, get_or-set_other}
 use borrow.Author.Tests.{lt-ltb, le-ltb, eq-eqb, ltb-true, ltb-false, eqb-true}
+use Rattle.std.specs.Prelude.{Option, Some, None}
 use Rattle.lists.specs.Pick.{pick}
 use Rattle.lists.specs.Order.{All, up_from, filtered}
 use Rattle.lists.proofs.Laws.{clash}
@@ -23,12 +24,11 @@ use Rattle.table.specs.loops.Marks.{ends_or_leads, row_productive, productive, m
 use Rattle.table.specs.declared.states.Step.{Step}
 use Rattle.table.specs.declared.states.Step.TheVariants.{Illegal, Ends, Leads}
 use Rattle.table.specs.declared.states.Code.{Code}
-use Rattle.table.specs.declared.codes.Next.{Next}
-use Rattle.table.specs.declared.codes.Next.TheVariants.{Found, Nothing}
 use Rattle.lists.proofs.Tests.{some_below-yes⁺, some_below-no⁻, some_below-ext}
 use Rattle.lists.proofs.Filter.{filtered-append, all-filtered}
 use Rattle.lists.proofs.Strings.{before-∷, after-map-∷, after-all}
 use Rattle.table.proofs.CodeList.{scan-end, scan-more, scan-all, scan-above, scan-start, scan-low, scan-ext, scan-empty, LeadsInside}
+use Rattle.table.specs.declared.states.EndKind.{EndKind}
 
 -- a string of some bytes has a first one
 pub unpacked-more : (n v : ℕ) → ¬ (n ≡ 0) → unpacked n v ≡ v / 16777216 ∷ unpacked (n - 1) (v % 16777216 * 256)
@@ -45,22 +45,22 @@ starts_first [] = tt
 starts_first (b ∷ s) = refl
 
 -- the first code of two lists, and of codes with a byte put in front
-first-left : (l k : List (List ℕ)) (c : Code) → first_code l ≡ Found c → first_code (l ++ k) ≡ Found c
+first-left : (l k : List (List ℕ)) (c : Code) → first_code l ≡ Some c → first_code (l ++ k) ≡ Some c
 first-left [] k c e = absurd (let z : ◌≡◌ {A = ℕ} 0 1 = cc in omega arith)
 first-left (s ∷ l) k c e = e
 
-first-right : (l k : List (List ℕ)) → first_code l ≡ Nothing → first_code (l ++ k) ≡ first_code k
+first-right : (l k : List (List ℕ)) → first_code l ≡ None → first_code (l ++ k) ≡ first_code k
 first-right [] k e = refl
 first-right (s ∷ l) k e = absurd (let z : ◌≡◌ {A = ℕ} 0 1 = cc in omega arith)
 
-abbrev pub put_next : ℕ → Next → Next
-put_next b Nothing = Nothing
-put_next b (Found c) = Found (put_first b c)
+abbrev pub put_next : ℕ → Option Code → Option Code
+put_next b None = None
+put_next b (Some c) = Some (put_first b c)
 
 first-map : (b : ℕ) (l : List (List ℕ)) → first_code (map (λ s. b ∷ s) l) ≡ put_next b (first_code l)
 unfolding packed
 first-map b [] = refl
-first-map b (s ∷ l) = ap (λ (n : ℕ). Found (record { bits = b * 16777216 + packed s / 256; len = n })) (sym (add-one (length s)))
+first-map b (s ∷ l) = ap (λ (n : ℕ). Some (record { bits = b * 16777216 + packed s / 256; len = n })) (sym (add-one (length s)))
 
 -- the codes of a row after a position that has come to the byte b
 module _ (sub : ℕ → List (List ℕ)) (step : Rows) (row : ℕ) where
@@ -80,17 +80,17 @@ module _ (sub : ℕ → List (List ℕ)) (step : Rows) (row : ℕ) where
           after-all (a ∷ p) (scan sub step row k (b + 1)) (scan-above sub step row a p k (b + 1) (omega arith))
           ∙ sym (after-all [] (scan sub step row k (b + 1)) (scan-start sub step row k (b + 1)))
 
-  pub row-found : (b : ℕ) (q : List ℕ) (c : Code) → Starts b q → b < 256 → first_code (after q (codes_on sub b (step row b))) ≡ Found c
-      → first_code (after q (scan sub step row (256 - b) b)) ≡ Found c
+  pub row-found : (b : ℕ) (q : List ℕ) (c : Code) → Starts b q → b < 256 → first_code (after q (codes_on sub b (step row b))) ≡ Some c
+      → first_code (after q (scan sub step row (256 - b) b)) ≡ Some c
   row-found b q c st lt e = ap first_code (after_more b q st lt) ∙ first-left (after q (codes_on sub b (step row b))) _ c e
 
-  pub row_next : (b : ℕ) (q : List ℕ) → Starts b q → b < 256 → first_code (after q (codes_on sub b (step row b))) ≡ Nothing
+  pub row_next : (b : ℕ) (q : List ℕ) → Starts b q → b < 256 → first_code (after q (codes_on sub b (step row b))) ≡ None
       → first_code (after q (scan sub step row (256 - b) b)) ≡ first_code (after [] (scan sub step row (256 - (b + 1)) (b + 1)))
   row_next b q st lt e = ap first_code (after_more b q st lt) ∙ first-right (after q (codes_on sub b (step row b))) _ e
 
-  pub row-over : (b : ℕ) (q : List ℕ) → 256 ≤ b → first_code (after q (scan sub step row (256 - b) b)) ≡ Nothing
+  pub rows_over : (b : ℕ) (q : List ℕ) → 256 ≤ b → first_code (after q (scan sub step row (256 - b) b)) ≡ None
   unfolding filtered
-  row-over b q h = rw (scan-end sub step row b h)
+  rows_over b q h = rw (scan-end sub step row b h)
 
   -- the scan may begin at the position's first byte
   row-start : (q : List ℕ) → get_or q 0 0 < 256 → after q (scan sub step row 256 0) ≡ after q (scan sub step row (256 - get_or q 0 0) (get_or q 0 0))
@@ -104,15 +104,15 @@ module _ (sub : ℕ → List (List ℕ)) (step : Rows) (row : ℕ) where
   row-begin b q e lt = rw e (starts_first q, ap first_code (row-start q (omega arith)))
 
   -- the codes of one byte
-  pub on-illegal : (b : ℕ) (q : List ℕ) → step row b ≡ Illegal → first_code (after q (codes_on sub b (step row b))) ≡ Nothing
+  pub on-illegal : (b : ℕ) (q : List ℕ) → step row b ≡ Illegal → first_code (after q (codes_on sub b (step row b))) ≡ None
   unfolding filtered
   on-illegal b q e = rw e
 
-  pub on-ends : (b x : ℕ) (q : List ℕ) → step row b ≡ Ends x → q ≡ [] → first_code (after q (codes_on sub b (step row b))) ≡ Found (put_first b (record { bits = 0; len = 0 }))
+  pub on-ends : (b : ℕ) (x : EndKind) (q : List ℕ) → step row b ≡ Ends x → q ≡ [] → first_code (after q (codes_on sub b (step row b))) ≡ Some (put_first b (record { bits = 0; len = 0 }))
   unfolding filtered before packed
   on-ends b x q e z = rw (e, z)
 
-  pub on-ended : (b x a : ℕ) (p q : List ℕ) → step row b ≡ Ends x → q ≡ a ∷ p → Starts b q → first_code (after q (codes_on sub b (step row b))) ≡ Nothing
+  pub on-ended : (b : ℕ) (x : EndKind) (a : ℕ) (p q : List ℕ) → step row b ≡ Ends x → q ≡ a ∷ p → Starts b q → first_code (after q (codes_on sub b (step row b))) ≡ None
   unfolding filtered before
   on-ended b x a p q e z st =
       let w : a ≡ b = subst (Starts b) z st in
@@ -133,7 +133,7 @@ module _ (marks : List ℕ) (step : Rows) where
   unfolding codes_marked
   marked-none f row e = rw e
 
-  pub next-none : (f row : ℕ) (q : List ℕ) → f ≡ 0 → first_code (after q (codes_marked marks step f row)) ≡ Nothing
+  pub next-none : (f row : ℕ) (q : List ℕ) → f ≡ 0 → first_code (after q (codes_marked marks step f row)) ≡ None
   unfolding filtered
   next-none f row q e = rw (marked-none f row e)
 
@@ -165,10 +165,10 @@ module _ (marks : List ℕ) (step : Rows) where
           let l : List (List ℕ) = codes_led marks step f n in
           All-map⁺ (λ s. b ∷ s) (λ s. length s ≤ suc f) l (All-⇒ (λ s (p : length s ≤ f). let q : suc (length s) ≤ suc f = omega arith in q) l (only-marked (λ s. length s ≤ f) f (codes_marked marks step f n) (is_marked marks f n) (ih n)))
 
-  pub next-short : (f row : ℕ) (q : List ℕ) (c : Code) → first_code (after q (codes_marked marks step f row)) ≡ Found c → c.len ≤ f
+  pub next-short : (f row : ℕ) (q : List ℕ) (c : Code) → first_code (after q (codes_marked marks step f row)) ≡ Some c → c.len ≤ f
   next-short f row q c e = go (after q (codes_marked marks step f row)) (all-filtered (before q) (λ s. length s ≤ f) (codes_marked marks step f row) (marked-short f row)) e
     where
-      go : (l : List (List ℕ)) → All (λ s. length s ≤ f) l → first_code l ≡ Found c → c.len ≤ f
+      go : (l : List (List ℕ)) → All (λ s. length s ≤ f) l → first_code l ≡ Some c → c.len ≤ f
       go [] h e = absurd (let z : ◌≡◌ {A = ℕ} 0 1 = cc in omega arith)
       go (s ∷ l) h e =
           let w : code_of s ≡ c = cc in
@@ -182,11 +182,11 @@ module _ (marks : List ℕ) (step : Rows) where
         on-leads (codes_led marks step f) step row b n q leads st (only-marked (λ s. before [] s ≡ true) f (codes_marked marks step f n) (is_marked marks f n) (marked_start f n))
         ∙ ap (λ (u : Bool). put_next b (first_code (after (drop 1 q) (pick u (codes_marked marks step f n) [])))) e
 
-    pub leads-dead : is_marked marks f n ≡ false → first_code (after q (codes_on (codes_led marks step f) b (step row b))) ≡ Nothing
+    pub leads-dead : is_marked marks f n ≡ false → first_code (after q (codes_on (codes_led marks step f) b (step row b))) ≡ None
     unfolding filtered
     leads-dead e = by-mark false e
 
-    pub leads-on : is_marked marks f n ≡ true → (p : List ℕ) → p ≡ drop 1 q → (r : Next) → first_code (after p (codes_marked marks step f n)) ≡ r
+    pub leads-on : is_marked marks f n ≡ true → (p : List ℕ) → p ≡ drop 1 q → (r : Option Code) → first_code (after p (codes_marked marks step f n)) ≡ r
         → first_code (after q (codes_on (codes_led marks step f) b (step row b))) ≡ put_next b r
     leads-on e p w r d = by-mark true e ∙ ap (put_next b) (ap (λ (p : List ℕ). first_code (after p (codes_marked marks step f n))) (sym w) ∙ d)
 
@@ -203,13 +203,13 @@ module _ (step : Rows) (w : ℕ → Bool) (row : ℕ) where
   unfolding some_below
   dead-step b d e = rw (add-one b, d, e)
 
-  pub dead-row : (b : ℕ) → 256 ≤ b → b ≤ 256 → Dead b → ◌≡◌ {A = ℕ} 0 (pick (row_productive step w row) 1 0)
+  pub dead-row : Dead 256 → false ≡ row_productive step w row
   unfolding row_productive
-  dead-row b h k d = let e : b ≡ 256 = omega arith in ap (λ (t : Bool). pick t 1 0) (sym (subst Dead e d))
+  dead-row d = sym d
 
-  pub live-row : (b : ℕ) (x : Step) → b < 256 → step row b ≡ x → ends_or_leads w x ≡ true → ◌≡◌ {A = ℕ} 1 (pick (row_productive step w row) 1 0)
+  pub live-row : (b : ℕ) → b < 256 → ends_or_leads w (step row b) ≡ true → true ≡ row_productive step w row
   unfolding row_productive
-  live-row b x h q e = ap (λ (t : Bool). pick t 1 0) (sym (some_below-yes⁺ (λ y. ends_or_leads w (step row y)) 256 b h (ap (ends_or_leads w) q ∙ e)))
+  live-row b h e = sym (some_below-yes⁺ (λ y. ends_or_leads w (step row y)) 256 b h e)
 
 -- a row past the last is not productive
 productive-past : (step : Rows) (f row : ℕ) → limits.rows ≤ row → productive step f row ≡ false

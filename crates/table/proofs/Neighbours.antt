@@ -237,22 +237,28 @@ tested-lines step rec es = ⇔⇒≡ _ _ there back
         (and_yes (t10 (map line_in es)) _
         (sym (backed-t10 es (read_next⇒less es r) (formed l)) ∙ and_yes (first_backed es) _ f (and_left (rises backed_by es) _ n)) l)
 
+three_first : (a b c d : Bool) → pick a (pick b (pick c d false) false) false ≡ pick (pick a (pick b c false) false) d false
+three_first true true c d = refl
+three_first true false c d = refl
+three_first false b c d = refl
+
 pub mappings-tested : (lim : Limits) (step : Rows) (rec : Record) (codes infos order : List ℕ)
     → let n = rec.mappings in
     let es = stored_list (take n codes) (take n infos) in
     pick (store_ok lim.mappings n codes infos order)
     (pick (t10 (lines_in rec codes infos)) (all_of (line_ok step rec) es) false) false
     ≡ pick (leb n lim.mappings)
-    (pick (leb lim.mappings (length codes))
-    (pick (leb lim.mappings (length infos))
-    (pick (leb lim.mappings (length order))
+    (pick (pick (leb lim.mappings (length codes))
+    (pick (leb lim.mappings (length infos)) (leb lim.mappings (length order)) false) false)
     (pick (pick (first_backed es) (pick (rises line_next es) (all_of (line_ok step rec) es) false) false)
     (pick (ordered (take n codes) (take n infos) (take n order))
     (pick (zeros (take (lim.mappings - n) (drop n codes)))
     (pick (zeros (take (lim.mappings - n) (drop n infos)))
     (zeros (take (lim.mappings - n) (drop n order)))
-    false) false) false) false) false) false) false) false
+    false) false) false) false) false) false
 unfolding lines_in
 mappings-tested lim step rec codes infos order =
     mappings-are lim.mappings rec.mappings codes infos order _ _
     (tested-lines step rec (stored_list (take rec.mappings codes) (take rec.mappings infos)))
+    ∙ ap (λ (b : Bool). pick (leb rec.mappings lim.mappings) b false)
+    (three_first (leb lim.mappings (length codes)) (leb lim.mappings (length infos)) (leb lim.mappings (length order)) _)

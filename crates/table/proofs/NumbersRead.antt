@@ -1,5 +1,11 @@
 -- The numbers that the grammar decides: 10, 12, 14 and 15 hold at a line exactly where the grammar says so.
 -- ten-exactly, twelve-exactly, fourteen-exactly, fifteen-exactly: of the conditions at a line, given any reading before it
+use Rattle.table.specs.declared.value.Class.TheVariants.{Sbcs, Mbcs}
+use Rattle.table.specs.declared.states.Code.{Code}
+use Rattle.table.specs.Codes.{code_of}
+use Rattle.table.specs.Header.{ReadValue}
+use Rattle.std.specs.Prelude.{Some, None}
+use Rattle.table.specs.Header.{ReadLine}
 use Prim.Native.Nat.{ℕ, ◌<◌, ◌≤◌}
 use mathlib.Core.Path.{◌≡◌, refl, sym, ap, ◌∙◌, subst}
 use mathlib.Core.Logic.{◌⊎◌, inl, inr, ◌↔◌}
@@ -16,7 +22,6 @@ use Rattle.lists.proofs.Laws.{clash}
 use Rattle.lists.proofs.Choice.{pick-true-true}
 use Rattle.table.specs.Limits.{Limits}
 use Rattle.table.specs.Cells.{Cell}
-use Rattle.table.specs.Codes.{packed}
 use Rattle.table.specs.Meaning.{Line}
 use Rattle.lists.specs.Strings.{same}
 use Rattle.lists.specs.Tests.{any_of}
@@ -42,12 +47,10 @@ use Rattle.table.proofs.HeaderRead.{LineMeans, line-written, key-line-reads, bla
 use Rattle.table.proofs.ValueRead.{name-reads, name-cases, min-reads, min_cases, max-reads, max_cases, class-reads, ClassCase, class_cases, sub-reads, sub_cases, sub1-reads, sub1-cases}
 use Rattle.table.proofs.FormsRead.{FormMeans, form-written, blank-body, charmap-body, end_body, LastMeans, last_written, blank-last, charmap-last}
 use Rattle.table.proofs.KeysHeld.{pair, KeyMeans, key-means}
-use Rattle.table.specs.declared.header.HeaderLine.{HeaderLine}
-use Rattle.table.proofs.OneMore.{row-over}
+use Rattle.table.proofs.OneMore.{rows_over}
 use Rattle.table.specs.declared.value.Key.{Key}
 use Rattle.table.specs.declared.value.Key.TheVariants.{CodeSetName, CurMin, CurMax, ConvClass, SubChar, SubChar1, State, Base, Other}
-use Rattle.table.specs.declared.value.Value.{Value}
-use Rattle.table.specs.declared.value.Value.TheVariants.{Unfit, Any, Name, Min, Max, Class, Sub, Sub1, Unbuilt}
+use Rattle.table.specs.declared.value.Value.TheVariants.{Any, Name, Min, Max, Class, Sub, Sub1, Unbuilt}
 
 -- ## Conditions of one refusal
 
@@ -73,7 +76,7 @@ in-exactly x b (c ∷ before) after u v = (there (in-exactly x b before after u.
     there ih (inl e) = absurd (u.0 (ap (λ (y : Cond). refusal_number y.refusal) e))
     there ih (inr i) = ih i
 
-module _ (lim : Limits) (h : Keys) (n : ℕ) (k : Key) (v : Value) where
+module _ (lim : Limits) (h : Keys) (n : ℕ) (k : Key) (v : ReadValue) where
   in-unfit : In (cond refusal.UnfitValue true) (key_conditions lim h n k v) ↔ (n12 v ≡ true)
   unfolding key_conditions
   in-unfit =
@@ -99,7 +102,7 @@ module _ (lim : Limits) (h : Keys) (n : ℕ) (k : Key) (v : Value) where
 -- ## A key's value
 
 -- a test that fails for every class fails for the class of each word
-class-test : (f : Value → Bool) → f (Class 1) ≡ false → f (Class 2) ≡ false → f Unbuilt ≡ false → (w : List ℕ) → In w classes → f (class_name w) ≡ false
+class-test : (f : ReadValue → Bool) → f (Some (Class Sbcs)) ≡ false → f (Some (Class Mbcs)) ≡ false → f (Some Unbuilt) ≡ false → (w : List ℕ) → In w classes → f (class_name w) ≡ false
 unfolding class_name same
 class-test f a b c w (inl i) = ap (λ (x : List ℕ). f (class_name x)) i ∙ a
 class-test f a b c w (inr (inl i)) = ap (λ (x : List ℕ). f (class_name x)) i ∙ b
@@ -125,7 +128,7 @@ else-by : {A B C : Type 0} → A ⊎ B → (B → C) → A ⊎ C
 else-by (inl a) f = inl a
 else-by (inr b) f = inr (f b)
 
-fit-cases : (k : Key) (v : List ℕ) → (value_of k v ≡ Unfit) ⊎ Fit k v
+fit-cases : (k : Key) (v : List ℕ) → (value_of k v ≡ None) ⊎ Fit k v
 fit-cases CodeSetName v = else-by (name-cases v) (λ x. x.1)
 fit-cases CurMin v = else-by (min_cases v) (λ x. (x.0, x.2))
 fit-cases CurMax v = else-by (max_cases v) (λ x. (x.0, x.2))
@@ -181,7 +184,7 @@ unbuilt-row n k l L is = (there l refl (eqb k 2) refl (eqb k 1) refl, back)
     back (inr (inr s)) = rw (is.1 s)
 
 over-row : (lim : Limits) (n : ℕ) (o : Bool) (O : Type 0) → (o ≡ true) ↔ O → (row_over lim n o ≡ true) ↔ (O ⊎ (lim.rows ≤ n))
-over-row lim n o O is = (λ e. there o refl (sym (row-over lim n o) ∙ e), λ c. row-over lim n o ∙ back c)
+over-row lim n o O is = (λ e. there o refl (sym (rows_over lim n o) ∙ e), λ c. rows_over lim n o ∙ back c)
   where
     there : (x : Bool) → o ≡ x → pick x true (leb lim.rows n) ≡ true → O ⊎ (lim.rows ≤ n)
     there true r h = inl (is.0 r)
@@ -192,33 +195,33 @@ over-row lim n o O is = (λ e. there o refl (sym (row-over lim n o) ∙ e), λ c
     back (inr h) = rw (le-leb lim.rows n h) (pick-true-true o)
 
 -- a test that fails for values of all keys but three
-record Silent (f : Value → Bool) : Type 0 where
-  unfit : f Unfit ≡ false
-  any : f Any ≡ false
-  name : f Name ≡ false
-  min : (d : ℕ) → f (Min d) ≡ false
-  max : (d : ℕ) → f (Max d) ≡ false
-  sub : (b n : ℕ) → f (Sub b n) ≡ false
-  sub1 : (b : ℕ) → f (Sub1 b) ≡ false
+record Silent (f : ReadValue → Bool) : Type 0 where
+  unfit : f None ≡ false
+  any : f (Some Any) ≡ false
+  name : f (Some Name) ≡ false
+  min : (d : ℕ) → f (Some (Min d)) ≡ false
+  max : (d : ℕ) → f (Some (Max d)) ≡ false
+  sub : (c : Code) → f (Some (Sub c)) ≡ false
+  sub1 : (b : ℕ) → f (Some (Sub1 b)) ≡ false
 
-never : {A B : Type 0} (f : Value → Bool) (x : Value) → f Unfit ≡ false → (x ≡ Unfit) ⊎ B → (B → f x ≡ false) → f x ≡ true → A
+never : {A B : Type 0} (f : ReadValue → Bool) (x : ReadValue) → f None ≡ false → (x ≡ None) ⊎ B → (B → f x ≡ false) → f x ≡ true → A
 never f x z (inl u) g e = absurd (clash e (ap f u ∙ z))
 never f x z (inr b) g e = absurd (clash e (g b))
 
-speaks : (f : Value → Bool) → Silent f → (k : Key) (v : List ℕ) → f (value_of k v) ≡ true → (k ≡ ConvClass) ⊎ ((k ≡ State) ⊎ (k ≡ Base))
+speaks : (f : ReadValue → Bool) → Silent f → (k : Key) (v : List ℕ) → f (value_of k v) ≡ true → (k ≡ ConvClass) ⊎ ((k ≡ State) ⊎ (k ≡ Base))
 unfolding value_of
 speaks f q CodeSetName v e = never f (value_of CodeSetName v) q.unfit (name-cases v) (λ b. ap f b.0 ∙ q.name) e
 speaks f q CurMin v e = never f (value_of CurMin v) q.unfit (min_cases v) (λ b. ap f b.1 ∙ q.min b.0) e
 speaks f q CurMax v e = never f (value_of CurMax v) q.unfit (max_cases v) (λ b. ap f b.1 ∙ q.max b.0) e
 speaks f q ConvClass v e = inl refl
-speaks f q SubChar v e = never f (value_of SubChar v) q.unfit (sub_cases v) (λ b. ap f b.1 ∙ q.sub (packed b.0) (length b.0)) e
+speaks f q SubChar v e = never f (value_of SubChar v) q.unfit (sub_cases v) (λ b. ap f b.1 ∙ q.sub (code_of b.0)) e
 speaks f q SubChar1 v e = never f (value_of SubChar1 v) q.unfit (sub1-cases v) (λ b. ap f b.1 ∙ q.sub1 b.0) e
 speaks f q State v e = inr (inl refl)
 speaks f q Base v e = inr (inr refl)
 speaks f q Other v e = absurd (clash e q.any)
 
 module _ (w v : List ℕ) where
-  abbrev read : Value
+  abbrev read : ReadValue
   read = value_of (key_of w) v
 
   -- by its word, what is read of a key
@@ -234,7 +237,7 @@ module _ (w v : List ℕ) where
       by_key_lem (inl m) e = (key_of w, m, λ f. clash e (fit-reads (key_of w) v f))
       by_key_lem (inr m) e = absurd (clash e (ap (λ (k : Key). n12 (value_of k v)) m))
 
-      unfit : (k : Key) → (Fit k v → ⊥) → (value_of k v ≡ Unfit) ⊎ Fit k v → n12 (value_of k v) ≡ true
+      unfit : (k : Key) → (Fit k v → ⊥) → (value_of k v ≡ None) ⊎ Fit k v → n12 (value_of k v) ≡ true
       unfit k n (inl u) = ap n12 u
       unfit k n (inr f) = absurd (n f)
 
@@ -255,7 +258,7 @@ module _ (w v : List ℕ) where
   fourteen-pair n = (λ e. by_key_lem (speaks (n14 n) silent (key_of w) v e) e, back)
     where
       silent : Silent (n14 n)
-      silent = record { unfit = refl; any = refl; name = refl; min = λ d. refl; max = λ d. refl; sub = λ b m. refl; sub1 = λ b. refl }
+      silent = record { unfit = refl; any = refl; name = refl; min = λ d. refl; max = λ d. refl; sub = λ c. refl; sub1 = λ b. refl }
 
       by_word : w ≡ key_text ConvClass → (x : List ℕ) → Quoted x v → n14 n (class_name x) ≡ true → In x classes → UnbuiltPair n (pair w v)
       by_word m x q e (inl i) = absurd (clash e (ap (λ (y : List ℕ). n14 n (class_name y)) i))
@@ -291,7 +294,7 @@ module _ (w v : List ℕ) where
   fifteen-pair lim n = (λ e. by_key_lem (speaks (n15 lim n) silent (key_of w) v e) e, back)
     where
       silent : Silent (n15 lim n)
-      silent = record { unfit = refl; any = refl; name = refl; min = λ d. refl; max = λ d. refl; sub = λ b m. refl; sub1 = λ b. refl }
+      silent = record { unfit = refl; any = refl; name = refl; min = λ d. refl; max = λ d. refl; sub = λ c. refl; sub1 = λ b. refl }
 
       by_row : w ≡ key_text State → RowCase v → n15 lim n (value_of State v) ≡ true → N15 lim.rows n (pair w v)
       by_row m (inl u) e = absurd (clash e (ap (n15 lim n) u))
@@ -313,22 +316,22 @@ module _ (w v : List ℕ) where
 
 module _ (lim : Limits) (h : Keys) (rows : List (List Cell)) where
   -- a number of a key's value, at the line
-  keyed-exactly : (x : Refusal) (f : Value → Bool) (P : Pair → Type 0) → ((k : Key) (v : Value) → In (cond x true) (key_conditions lim h (length rows) k v) ↔ (f v ≡ true))
+  keyed-exactly : (x : Refusal) (f : ReadValue → Bool) (P : Pair → Type 0) → ((k : Key) (v : ReadValue) → In (cond x true) (key_conditions lim h (length rows) k v) ↔ (f v ≡ true))
       → ((w v : List ℕ) → (f (value_of (key_of w) v) ≡ true) ↔ P (pair w v)) → NotOf x (cond refusal.NoForm true ∷ []) → NotOf x (charmap_conditions h rows) → (s : List ℕ)
       → In (cond x true) (header_asks lim h rows s (header_line_of s)).conditions ↔ Keyed P Header s
   keyed-exactly x f P at is no-form no-charmap s = (there (header_line_of s) (line-written s), back)
     where
-      there : (y : HeaderLine) → LineMeans s y → In (cond x true) (header_asks lim h rows s y).conditions → Keyed P Header s
-      there header.NoForm m i = absurd (not_in x (cond refusal.NoForm true ∷ []) no-form i)
-      there header.Blank m i = absurd (not_in x (form_conditions header.Blank) no-form i)
-      there header.Charmap m i = absurd (not_in x (charmap_conditions h rows) no-charmap i)
-      there (header.Known k v q e) (p, line, key, value, part) i =
+      there : (y : ReadLine) → LineMeans s y → In (cond x true) (header_asks lim h rows s y).conditions → Keyed P Header s
+      there None m i = absurd (not_in x (cond refusal.NoForm true ∷ []) no-form i)
+      there (Some header.Blank) m i = absurd (not_in x (form_conditions (Some header.Blank)) no-form i)
+      there (Some header.Charmap) m i = absurd (not_in x (charmap_conditions h rows) no-charmap i)
+      there (Some (header.Known k v q e)) (p, line, key, value, part) i =
           (p, line, (is p.key p.value).0 (ap (λ (z : Key). f (value_of z p.value)) (sym key) ∙ ap f (sym value) ∙ (at k v).0 i))
 
       back : Keyed P Header s → In (cond x true) (header_asks lim h rows s (header_line_of s)).conditions
       back (p, line, c) =
           let Line-read = key-line-reads p s line in
-          subst (λ (y : HeaderLine). In (cond x true) (header_asks lim h rows s y).conditions) (sym Line-read.line)
+          subst (λ (y : ReadLine). In (cond x true) (header_asks lim h rows s y).conditions) (sym Line-read.line)
           ((at (key_of p.key) (value_of (key_of p.key) p.value)).1 ((is p.key p.value).1 c))
 
   -- 10
@@ -336,23 +339,23 @@ module _ (lim : Limits) (h : Keys) (rows : List (List Cell)) where
   unfolding charmap_conditions
   header-ten s = (there (header_line_of s) refl, back (header_line_of s) (line-written s))
     where
-      there : (y : HeaderLine) → header_line_of s ≡ y → In (cond refusal.NoForm true) (header_asks lim h rows s y).conditions → N10 Header s
-      there header.NoForm e i = (
-        λ b. (let k : header.NoForm ≡ header.Blank = sym e ∙ blank-line-reads s b in let z : ◌≡◌ {A = ℕ} 0 1 = cc in omega arith),
-        λ c. (let k : header.NoForm ≡ header.Charmap = sym e ∙ charmap-line-reads s c in let z : ◌≡◌ {A = ℕ} 0 1 = cc in omega arith),
+      there : (y : ReadLine) → header_line_of s ≡ y → In (cond refusal.NoForm true) (header_asks lim h rows s y).conditions → N10 Header s
+      there None e i = (
+        λ b. (let k : None ≡ Some header.Blank = sym e ∙ blank-line-reads s b in let z : ◌≡◌ {A = ℕ} 0 1 = cc in omega arith),
+        λ c. (let k : None ≡ Some header.Charmap = sym e ∙ charmap-line-reads s c in let z : ◌≡◌ {A = ℕ} 0 1 = cc in omega arith),
         λ p l. (let Line-read = key-line-reads p s l in
-            let k : header.NoForm ≡ header.Known (key_of p.key) (value_of (key_of p.key) p.value) Line-read.from Line-read.to = sym e ∙ Line-read.line in
+            let k : None ≡ Some (header.Known (key_of p.key) (value_of (key_of p.key) p.value) Line-read.from Line-read.to) = sym e ∙ Line-read.line in
             let z : ◌≡◌ {A = ℕ} 0 1 = cc in omega arith),
       )
-      there header.Blank e i = absurd (clash ((in-exactly refusal.NoForm false [] [] tt tt).0 i) refl)
-      there header.Charmap e i = absurd (not_in refusal.NoForm (charmap_conditions h rows) (λ z. omega arith, (λ z. omega arith, tt)) i)
-      there (header.Known k v q z) e i = absurd (not_in refusal.NoForm (key_conditions lim h (length rows) k v) (not_key lim h (length rows) k v) i)
+      there (Some header.Blank) e i = absurd (clash ((in-exactly refusal.NoForm false [] [] tt tt).0 i) refl)
+      there (Some header.Charmap) e i = absurd (not_in refusal.NoForm (charmap_conditions h rows) (λ z. omega arith, (λ z. omega arith, tt)) i)
+      there (Some (header.Known k v q z)) e i = absurd (not_in refusal.NoForm (key_conditions lim h (length rows) k v) (not_key lim h (length rows) k v) i)
 
-      back : (y : HeaderLine) → LineMeans s y → N10 Header s → In (cond refusal.NoForm true) (header_asks lim h rows s y).conditions
-      back header.NoForm m n = inl refl
-      back header.Blank m n = absurd (n.0 m)
-      back header.Charmap m n = absurd (n.1 m)
-      back (header.Known k v q e) m n = absurd (n.2 m.0 m.1)
+      back : (y : ReadLine) → LineMeans s y → N10 Header s → In (cond refusal.NoForm true) (header_asks lim h rows s y).conditions
+      back None m n = inl refl
+      back (Some header.Blank) m n = absurd (n.0 m)
+      back (Some header.Charmap) m n = absurd (n.1 m)
+      back (Some (header.Known k v q e)) m n = absurd (n.2 m.0 m.1)
 
 -- ## A line from CHARMAP on, by its form
 

@@ -23,8 +23,8 @@ pub lines-over : (lim : Limits) (ls : List Line) → n26 lim ls ≡ leb lim.mapp
 unfolding n26
 lines-over lim ls = one_more (length ls) lim.mappings
 
-pub row-over : (lim : Limits) (n : ℕ) (o : Bool) → row_over lim n o ≡ pick o true (leb lim.rows n)
+pub rows_over : (lim : Limits) (n : ℕ) (o : Bool) → row_over lim n o ≡ pick o true (leb lim.rows n)
 unfolding row_over
-row-over lim n o =
+rows_over lim n o =
     ap (λ (b : Bool). pick o true (not (pick b (leb (n + 1) lim.rows) false))) (le-leb 1 (n + 1) (omega arith))
     ∙ ap (λ (b : Bool). pick o true b) (one_more n lim.rows)

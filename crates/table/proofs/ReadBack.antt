@@ -9,11 +9,9 @@ use mathlib.Core.Path.{◌≡◌, refl, sym, ap, subst, ◌∙◌}
 use mathlib.Core.Bool.{Bool, true, false}
 use mathlib.Core.Option.{Option, none, some}
 use mathlib.Core.List.{List, map}
-use Prim.Native.Nat.{ℕ, zero, suc}
-use native.Mathlib.Omega.{arith}
+use Prim.Native.Nat.{ℕ}
 use lib.Dec.{leb, eqb}
 use lib.ListN.{length}
-use borrow.Author.Tests.{ne_eqb}
 use Rattle.lists.specs.Pick.{pick}
 use Rattle.lists.specs.Order.{All, In}
 use Rattle.lists.specs.Options.{is_some}
@@ -33,6 +31,8 @@ use Rattle.table.specs.Stored.{stored_of, line_in, less}
 use Rattle.table.specs.Memory.{sorted}
 use Rattle.table.specs.loops.Progress.{GoodLine}
 use Rattle.table.proofs.StoredLine.{line-stored}
+use Rattle.std.specs.Prelude.{Option as Optional, Some, None, is_some as is_some_in}
+use Rattle.table.specs.declared.states.EndKind.{EndKind}
 
 -- a line that reads a code
 abbrev pub ReadBy : List Line → Line → Type 0
@@ -123,6 +123,6 @@ written-complete lim t k l i w =
     by_kind (end_kind (steps_of t) 0 l.code)
     (and_right (leb (length l.code) t.max) _ (and_right (leb t.min (length l.code)) _ sized))
   where
-    by_kind : (n : ℕ) → t5_kind l.point n ≡ true → pick (eqb n 0) false true ≡ true
-    by_kind zero e = absurd (clash e refl)
-    by_kind (suc n) e = ap (λ (b : Bool). pick b false true) (ne_eqb (suc n) 0 (λ z. omega arith))
+    by_kind : (o : Optional EndKind) → t5_kind l.point o ≡ true → is_some_in o ≡ true
+    by_kind None e = absurd (clash e refl)
+    by_kind (Some kind) e = refl

@@ -14,7 +14,7 @@ use Rattle.lists.specs.Tests.{any_of}
 use Rattle.table.specs.Row.{unbuilt_entry, over_entry}
 use Rattle.table.specs.Grammar.{UnbuiltEntry, OverEntry}
 use Rattle.lists.proofs.Tests.{any_of-no⇔, any_of-yes⇔}
-use Rattle.table.specs.declared.row.Entry.{Entry}
+use Rattle.table.specs.Row.{Entry}
 
 unbuilt-is : (e : Entry) → (unbuilt_entry e ≡ true) ↔ UnbuiltEntry e
 unfolding unbuilt_entry

@@ -1,10 +1,10 @@
 -- What the numbers of cells say: each by itself, all that are of the form, zeros behind them, rows one behind the other; and one byte of each recursion over rows.
-use Prim.Native.Nat.{ℕ, suc, ◌+◌, ◌-◌, ◌*◌, ◌<◌, ◌≤◌}
+use Prim.Native.Nat.{ℕ, zero, suc, suc, ◌+◌, ◌-◌, ◌*◌, ◌<◌, ◌≤◌}
 use mathlib.Core.Path.{◌≡◌, refl, ap, ◌∙◌}
 use mathlib.Core.Bool.{Bool, true, false}
 use mathlib.Core.List.{List, [], ◌∷◌, map}
 use native.Mathlib.Omega.{arith}
-use lib.Dec.{ltb, leb, eqb}
+use lib.Dec.{ltb, leb}
 use lib.ListN.{length, length-append, length-map}
 use borrow.Author.Tests.{leb-true, le-leb, lt-leb, lt-ltb, le-ltb}
 use Rattle.lists.specs.Pick.{pick}
@@ -27,22 +27,26 @@ use Rattle.table.specs.declared.states.Step.TheVariants.{Illegal, Ends, Leads}
 use Rattle.table.specs.declared.states.CutStop.TheVariants as cut_stop
 use Rattle.table.specs.declared.states.Cut.{Cut}
 use Rattle.table.specs.declared.states.Cut.TheVariants.{Complete, Stopped}
-use Rattle.table.proofs.CellLaws.{cell-far, cell-small, cell-back, number-back, number-known, numbers-say}
+use Rattle.table.proofs.CellLaws.{cell-far, cell-back, number-back, number-known, numbers-say}
+use Rattle.std.specs.Prelude.{Option, Some, None}
+use Rattle.table.specs.declared.states.EndKind.{EndKind}
 
 -- numbers of cells as the pass over the rows tests them: 0 to 3 lead nowhere; 4 to 16 are not of the form or lead to row 0; the rest lead on
-small_by : (w : ℕ → Bool) (e : ℕ) (r : Bool) → leads_to w (pick r Illegal (Ends e)) ≡ true
-small_by w e true = refl
-small_by w e false = refl
-
 small-leads : (w : ℕ → Bool) (e : ℕ) → e ≤ 3 → leads_to w (cell_step (cell_in e)) ≡ true
-small-leads w e h = ap (leads_to w) (cell-small e h) ∙ small_by w e (eqb e 0)
+unfolding cell_in
+small-leads w zero h = refl
+small-leads w (suc zero) h = refl
+small-leads w (suc (suc zero)) h = refl
+small-leads w (suc (suc (suc zero))) h = refl
+small-leads w (suc (suc (suc (suc e)))) h = absurd (omega arith)
 
 pub small-never : (k e : ℕ) → e ≤ 3 → leads_on k (cell_step (cell_in e)) ≡ false
-small-never k e h = ap (leads_on k) (cell-small e h) ∙ go (eqb e 0)
-  where
-    go : (t : Bool) → leads_on k (pick t Illegal (Ends e)) ≡ false
-    go true = refl
-    go false = refl
+unfolding cell_in
+small-never k zero h = refl
+small-never k (suc zero) h = refl
+small-never k (suc (suc zero)) h = refl
+small-never k (suc (suc (suc zero))) h = refl
+small-never k (suc (suc (suc (suc e)))) h = absurd (omega arith)
 
 pub small-ok : (n e : ℕ) → e ≤ 3 → state_ok n e ≡ true
 small-ok n e h = rw (le-leb e 3 h) (small-leads (t2_row n) e h)
@@ -105,9 +109,9 @@ cut_from-∷ step first f row k b s Illegal q = rw (q, cut_from)
 cut_from-∷ step first f row k b s (Ends e) q = rw (q, cut_from)
 cut_from-∷ step first f row k b s (Leads n) q = rw (q, cut_from)
 
-abbrev pub end_on : Step → List ℕ → (ℕ → ℕ) → ℕ
-end_on Illegal s go = 0
-end_on (Ends e) s go = pick (is_empty s) e 0
+abbrev pub end_on : Step → List ℕ → (ℕ → Option EndKind) → Option EndKind
+end_on Illegal s go = None
+end_on (Ends e) s go = pick (is_empty s) (Some e) None
 end_on (Leads n) s go = go n
 
 pub end_kind-∷ : (step : Rows) (row b : ℕ) (s : List ℕ) (x : Step) → step row b ≡ x → end_kind step row (b ∷ s) ≡ end_on x s (λ n. end_kind step n s)

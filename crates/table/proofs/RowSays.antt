@@ -18,7 +18,7 @@ use Rattle.table.specs.Grammar.{RowValue, Names, SaysElse, RowSays}
 use Rattle.table.proofs.RowText.{Bounded, entries-bounded, overwritten-length}
 use Rattle.lists.proofs.Place.{spread-turn, spread_end}
 use Rattle.table.proofs.RowRead.{row_reads}
-use Rattle.table.specs.declared.row.Entry.{Entry}
+use Rattle.table.specs.Row.{Entry}
 
 -- a byte outside a range of n bytes from i on keeps its value
 spread-else : (n i to : ℕ) (v : Cell) (l : List Cell) (b : ℕ) → i + n ≡ to + 1 → to < length l → (b < i) ⊎ (to < b) → get_or (fill_range i to v l) b illegal ≡ get_or l b illegal

@@ -1,116 +1,32 @@
--- Laws of state rows as text: reading on from an entry, writing it over the row, the row that results.
+-- Laws of state rows as text: how far an entry reaches, entry by entry, the row that results.
+use Rattle.std.specs.Prelude.{Option, Some, None}
 use mathlib.Core.Path.{◌≡◌, refl, sym, ap, ◌∙◌}
-use mathlib.Core.Bool.{Bool, true, false, ◌||◌}
+use mathlib.Core.Bool.{Bool, true, false}
 use mathlib.Core.List.{List, [], ◌∷◌, map}
 use Prim.Native.Nat.{ℕ, zero, suc, ◌+◌, ◌<◌, ◌≤◌}
 use native.Mathlib.Omega.{arith}
 use lib.Dec.{ltb, leb, eqb}
-use lib.ListN.{length, get_or, replicate}
-use borrow.Author.Tests.{ltb-true}
-use Rattle.lists.specs.Pick.{pick}
+use lib.ListN.{length, get_or, drop, replicate}
+use borrow.Author.Tests.{ltb-true, leb-true, leb-false, eqb-true}
 use Rattle.lists.specs.Order.{All}
-use Rattle.lists.proofs.Laws.{tests}
 use Rattle.lists.proofs.Cases.{pick-case}
-use Rattle.lists.proofs.Choice.{pick-true-false}
 use Rattle.lists.proofs.Parts.{map-replicate}
-use Rattle.table.specs.declared.text.Num.{Num}
-use Rattle.table.specs.declared.text.Num.TheVariants.{Val, Bad}
 use Rattle.table.specs.Cells.{illegal, cell_number}
 use Rattle.table.specs.Text.{digit_of, byte_of, skip_at, number_at}
-use Rattle.table.specs.Row.{to_at, next_at, end_at, entry_sep, entry_end, entry_next, entry_to, entry_from, entry_at, entries_go, well_go, entries_at, meaning, overwritten, open_at, entries_from, entries_of, row_of}
-use Rattle.table.proofs.TextLaws.{scan, Forth}
+use Rattle.table.specs.Row.{Entry, ReadEntry, to_at, next_at, letter_at, end_at, entry_sep, entry_end, entry_next, entry_to, entry_from, entry_at, entries_go, well_go, entries_at, well_at, meaning, overwritten, open_at, entries_from, entries_of, row_of}
+use Rattle.table.proofs.TextLaws.{scan, get_d-out, skip-forth, Forth, forth-past}
+use Rattle.table.specs.loops.Coded.{rest_at, well_rest, places_left}
 use Rattle.lists.specs.Place.{fill_range}
-use Rattle.lists.specs.Tests.{any_of}
-use Rattle.lists.proofs.Place.{spread-replicate, map-spread, spread-0, take-0-++-drop, length-spread}
-use Rattle.table.specs.loops.Ranges.{Within, NumAtMost}
-use Rattle.table.specs.loops.Coded.{put_row}
-use Rattle.table.specs.declared.row.ReadEntry.TheVariants.{Wrong, More, Last}
-use Rattle.table.specs.declared.row.Entry.{Entry}
-use Rattle.table.specs.declared.row.ReadEntry.{ReadEntry}
-
--- an entry more, the last one, or none: whether one so far has a form
-pub any-more : (p : Entry → Bool) (l : Bool) (f : ℕ) (s : List ℕ) (e : Entry) (q : ℕ) →
-    pick l true (any_of p (entries_go (suc f) s (More e q))) ≡ pick (l || p e) true (any_of p (entries_go f s (entry_at s q)))
-unfolding any_of entries_go
-any-more p true f s e q = refl
-any-more p false f s e q = refl
-
-pub any_last : (p : Entry → Bool) (l : Bool) (f : ℕ) (s : List ℕ) (e : Entry) →
-    pick l true (any_of p (entries_go f s (Last e))) ≡ (l || p e)
-unfolding any_of entries_go
-any_last p true f s e = refl
-any_last p false zero s e = pick-true-false (p e)
-any_last p false (suc f) s e = pick-true-false (p e)
-
-pub any-wrong : (p : Entry → Bool) (l : Bool) (f : ℕ) (s : List ℕ) → pick l true (any_of p (entries_go f s Wrong)) ≡ l
-unfolding any_of entries_go
-any-wrong p l zero s = pick-true-false l
-any-wrong p l (suc f) s = pick-true-false l
-
-pub well-more : (f : ℕ) (s : List ℕ) (e : Entry) (q : ℕ) → well_go (suc f) s (More e q) ≡ well_go f s (entry_at s q)
-unfolding well_go
-well-more f s e q = refl
-
-pub well-last : (f : ℕ) (s : List ℕ) (e : Entry) → well_go f s (Last e) ≡ true
-unfolding well_go
-well-last zero s e = refl
-well-last (suc f) s e = refl
-
-pub well-wrong : (f : ℕ) (s : List ℕ) → well_go f s Wrong ≡ false
-unfolding well_go
-well-wrong zero s = refl
-well-wrong (suc f) s = refl
-
--- overwriting a row from an entry that was read on
-module _ {A : Type 0} (value : Entry → A) where
-  pub overwrite-more : (f : ℕ) (s : List ℕ) (e : Entry) (q : ℕ) (row : List A) →
-      overwritten value (entries_go (suc f) s (More e q)) row
-      ≡ overwritten value (entries_go f s (entry_at s q)) (fill_range e.lo e.hi (value e) row)
-  unfolding overwritten entries_go
-  overwrite-more f s e q row = refl
-
-  pub overwrite-last : (f : ℕ) (s : List ℕ) (e : Entry) (row : List A) →
-      overwritten value (entries_go f s (Last e)) row ≡ fill_range e.lo e.hi (value e) row
-  unfolding overwritten entries_go
-  overwrite-last zero s e row = refl
-  overwrite-last (suc f) s e row = refl
-
-  pub overwrite-wrong : (f : ℕ) (s : List ℕ) (row : List A) → overwritten value (entries_go f s Wrong) row ≡ row
-  unfolding overwritten entries_go
-  overwrite-wrong zero s row = refl
-  overwrite-wrong (suc f) s row = refl
+use Rattle.lists.proofs.Place.{map-spread, length-spread}
 
 module _ (s : List ℕ) (e : Entry) (q : ℕ) where
-  pub sep-last : length s ≤ q → entry_sep s e q ≡ Last e
+  pub sep-last : length s ≤ q → entry_sep s e q ≡ Some (e, None)
   unfolding entry_sep
   sep-last h = search scan
 
-  pub sep-more : q < length s → get_or s q 0 ≡ 44 → entry_sep s e q ≡ More e (q + 1)
+  pub sep-more : q < length s → get_or s q 0 ≡ 44 → entry_sep s e q ≡ Some (e, Some (q + 1))
   unfolding entry_sep
   sep-more h g = search scan
-
-  pub sep-wrong : q < length s → (get_or s q 0 ≡ 44 → ⊥) → entry_sep s e q ≡ Wrong
-  unfolding entry_sep
-  sep-wrong h g = search scan
-
-spread-all : (l : List ℕ) → length l ≡ 256 → fill_range 0 255 0 l ≡ replicate 256 0
-spread-all l e = spread-replicate 255 0 l e
-
-entries_none : (s : List ℕ) (p : ℕ) → p ≡ skip_at s 0 → length s ≤ p → entries_of s ≡ []
-unfolding entries_of
-entries_none s p e h = search (tests, ← e)
-
-entries-bad : (s : List ℕ) (p : ℕ) → p ≡ skip_at s 0 → p < length s → open_at s p ≡ Bad → entries_of s ≡ []
-unfolding entries_of entries_from
-entries-bad s p e h o = search (tests, ← e, o)
-
-entries-val : (s : List ℕ) (p k q : ℕ)
-    → p ≡ skip_at s 0
-    → p < length s
-    → open_at s p ≡ Val k q
-    → entries_of s ≡ entries_at s q
-unfolding entries_of entries_from
-entries-val s p k q e h o = search (tests, ← e, o)
 
 overwritten-map : {A B : Type 0} (f : A → B) (value : Entry → A) (es : List Entry) (row : List A)
     → map f (overwritten value es row) ≡ overwritten (λ e. f (value e)) es (map f row)
@@ -127,116 +43,185 @@ numbers-overwritten es =
     sym (overwritten-map cell_number meaning es (replicate 256 illegal)
     ∙ ap (λ (l : List ℕ). overwritten (λ e. cell_number (meaning e)) es l) (map-replicate cell_number 256 illegal))
 
-none-overwritten : (s l : List ℕ)
-    → length l ≡ 256
-    → entries_of s ≡ []
-    → fill_range 0 255 0 l ≡ map cell_number (row_of (entries_of s))
-unfolding overwritten
-none-overwritten s l len e =
-    spread-all l len ∙ numbers-overwritten [] ∙ ap (λ (es : List Entry). map cell_number (row_of es)) (sym e)
+-- a row of the entries of a text
+pub row-written : (s : List ℕ) (es : List Entry) → entries_of s ≡ es
+    → overwritten (λ e. cell_number (meaning e)) es (replicate 256 0) ≡ map cell_number (row_of (entries_of s))
+row-written s es e = rw e (numbers-overwritten es)
 
-module _ (s l : List ℕ) (p : ℕ) (len : length l ≡ 256) (e : p ≡ skip_at s 0) where
-  pub take_none : length s ≤ p → fill_range 0 255 0 l ≡ map cell_number (row_of (entries_of s))
-  take_none h = none-overwritten s l len (entries_none s p e h)
-
-  pub take-bad : p < length s → open_at s p ≡ Bad → fill_range 0 255 0 l ≡ map cell_number (row_of (entries_of s))
-  take-bad h o = none-overwritten s l len (entries-bad s p e h o)
-
-pub take-val : (s l : List ℕ) (p k q : ℕ) → length l ≡ 256 → p ≡ skip_at s 0 → p < length s → open_at s p ≡ Val k q →
-    overwritten (λ e. cell_number (meaning e)) (entries_at s q) (fill_range 0 255 0 l) ≡ map cell_number (row_of (entries_of s))
-take-val s l p k q len e h o = rw (entries-val s p k q e h o, spread-all l len) (numbers-overwritten (entries_at s q))
-
--- a token's number, past an earlier place
-pub within-keeps : (r : Num) (at q n : ℕ) → q ≤ at → Within r at n → NumAtMost 255 r q n
-unfolding Within NumAtMost
-within-keeps Bad at q n le h = tt
-within-keeps (Val v e) at q n le h = (omega arith, h.1, omega (arith, h.2))
-
-pub full-row : (v : ℕ) (l : List ℕ) → fill_range 0 255 v l ≡ put_row 0 (replicate 256 v) l
-unfolding put_row
-full-row v l = spread-0 255 v l ∙ sym (take-0-++-drop 256 (replicate 256 v) l)
+-- overwriting a row from an entry that was read on
+pub overwrite-more : {A : Type 0} (value : Entry → A) (f : ℕ) (s : List ℕ) (e : Entry) (q : ℕ) (row : List A)
+    → overwritten value (entries_go (suc f) s (Some (e, Some q))) row
+    ≡ overwritten value (entries_go f s (entry_at s q)) (fill_range e.lo e.hi (value e) row)
+unfolding overwritten entries_go
+overwrite-more value f s e q row = refl
 
 -- bounds of an entry: its last byte is a byte, its next row has at most two digits or is none
 abbrev pub Bounded : Entry → Type 0
 Bounded c = (c.hi < 256) × (c.next ≤ 256)
 
-abbrev ReadEntryBounded : ReadEntry → Type 0
-ReadEntryBounded Wrong = Unit {0}
-ReadEntryBounded (Last e) = Bounded e
-ReadEntryBounded (More e q) = Bounded e
+-- and of where the next one begins, past `at` and within s
+abbrev pub ReadFrom : List ℕ → ℕ → ReadEntry → Type 0
+ReadFrom s at None = Unit {0}
+ReadFrom s at (Some (e, None)) = Bounded e
+ReadFrom s at (Some (e, Some q)) = Bounded e × (at < q) × (q ≤ length s)
 
-number-forth : (k : ℕ) (s : List ℕ) (at : ℕ) → 256 ≤ k → Forth k 0 (number_at s at)
+number-forth : (k : ℕ) (s : List ℕ) (at : ℕ) → 256 ≤ k → Forth k (at + 1) (number_at s at)
 unfolding number_at
 number-forth k s at le =
-    pick-case (Forth k 0) (ltb (digit_of (byte_of s at)) 16) _ _
+    pick-case (Forth k (at + 1)) (ltb (digit_of (byte_of s at)) 16) _ _
     (λ h. let x = ltb-true (digit_of (byte_of s at)) 16 h in
-    pick-case (Forth k 0) (ltb (digit_of (byte_of s (at + 1))) 16) _ _
+    pick-case (Forth k (at + 1)) (ltb (digit_of (byte_of s (at + 1))) 16) _ _
     (λ l. let y = ltb-true (digit_of (byte_of s (at + 1))) 16 l in (omega arith, omega arith))
     (λ _. (omega arith, omega arith)))
     (λ _. tt)
 
+-- the number after a sign
+signed-forth : (k : ℕ) (s : List ℕ) (q : ℕ) → 256 ≤ k → Forth k q (number_at s (skip_at s (skip_at s q + 1)))
+signed-forth k s q le =
+    let p : ℕ = skip_at s q + 1 in
+    forth-past k q (skip_at s p + 1) _ (omega (arith, skip-forth q (drop q s), skip-forth p (drop p s))) (number-forth k s (skip_at s p) le)
+
 module _ (s : List ℕ) where
-  to-forth : (from q : ℕ) → from < 256 → Forth 256 0 (to_at s from q)
+  to-forth : (from q : ℕ) → from < 256 → Forth 256 q (to_at s from q)
   unfolding to_at
   to-forth from q h =
-      pick-case (Forth 256 0) (eqb (byte_of s (skip_at s q)) 45) _ _
-      (λ _. number-forth 256 s (skip_at s (skip_at s q + 1)) (omega arith)) (λ _. (h, omega arith))
+      pick-case (Forth 256 q) (eqb (byte_of s (skip_at s q)) 45) _ _
+      (λ _. signed-forth 256 s q (omega arith)) (λ _. (h, omega arith))
 
-  next-forth : (q : ℕ) → Forth 257 0 (next_at s q)
+  next-forth : (q : ℕ) → Forth 257 q (next_at s q)
   unfolding next_at
   next-forth q =
-      pick-case (Forth 257 0) (eqb (byte_of s (skip_at s q)) 58) _ _
-      (λ _. number-forth 257 s (skip_at s (skip_at s q + 1)) (omega arith)) (λ _. (omega arith, omega arith))
+      pick-case (Forth 257 q) (eqb (byte_of s (skip_at s q)) 58) _ _
+      (λ _. signed-forth 257 s q (omega arith)) (λ _. (omega arith, omega arith))
 
-  sep-bounded : (e : Entry) (at : ℕ) → Bounded e → ReadEntryBounded (entry_sep s e at)
+  letter-forth : (back at : ℕ) → back ≤ at → Forth 6 back (letter_at s back at)
+  unfolding letter_at
+  letter-forth back at h =
+      pick-case P (eqb (byte_of s at) 112) _ _ (λ _. (omega arith, omega arith))
+      (λ _. pick-case P (eqb (byte_of s at) 117) _ _ (λ _. (omega arith, omega arith))
+      (λ _. pick-case P (eqb (byte_of s at) 105) _ _ (λ _. (omega arith, omega arith))
+      (λ _. pick-case P (eqb (byte_of s at) 115) _ _ (λ _. (omega arith, omega arith)) (λ _. (omega arith, omega arith)))))
+    where
+      P : Option (ℕ × ℕ) → Type 0
+      P n = Forth 6 back n
+
+  end-forth : (q : ℕ) → Forth 6 q (end_at s q)
+  unfolding end_at
+  end-forth q =
+      let p : ℕ = skip_at s q + 1 in
+      pick-case (Forth 6 q) (eqb (byte_of s (skip_at s q)) 46) _ _
+      (λ _. forth-past 6 q p _ (omega (arith, skip-forth q (drop q s))) (letter-forth p (skip_at s p) (skip-forth p (drop p s))))
+      (λ _. (omega arith, omega arith))
+
+  -- a comma stands in the text
+  comma-inside : (at : ℕ) → eqb (byte_of s at) 44 ≡ true → at < length s
+  comma-inside at h = by_end (leb (length s) at) refl
+    where
+      by_end : (x : Bool) → leb (length s) at ≡ x → at < length s
+      by_end true e = absurd (omega (arith, eqb-true (byte_of s at) 44 h, get_d-out s at (leb-true (length s) at e)))
+      by_end false e = leb-false (length s) at e
+
+  sep-from : (start : ℕ) (e : Entry) (q : ℕ) → Bounded e → start < q + 1 → ReadFrom s start (entry_sep s e (skip_at s q))
   unfolding entry_sep
-  sep-bounded e at b =
-      pick-case ReadEntryBounded (leb (length s) at) _ _ (λ _. b)
-      (λ _. pick-case ReadEntryBounded (eqb (byte_of s at) 44) _ _ (λ _. b) (λ _. tt))
+  sep-from start e q b h =
+      pick-case (ReadFrom s start) (leb (length s) (skip_at s q)) _ _ (λ _. b)
+      (λ _. pick-case (ReadFrom s start) (eqb (byte_of s (skip_at s q)) 44) _ _
+      (λ k. (b, omega (arith, skip-forth q (drop q s)), omega (arith, comma-inside (skip_at s q) k))) (λ _. tt))
 
-  end-bounded : (from to next : ℕ) (n : Num) → to < 256 → next ≤ 256 → ReadEntryBounded (entry_end s from to next n)
-  unfolding entry_end
-  end-bounded from to next Bad h k = tt
-  end-bounded from to next (Val end q) h k =
-      sep-bounded (record { lo = from; hi = to; next = next; kind = end }) (skip_at s q) (h, k)
+  end-from : (start from to next q : ℕ) (n : Option (ℕ × ℕ)) → to < 256 → next ≤ 256 → start < q → Forth 6 q n
+      → ReadFrom s start (entry_end s from to next n)
+  end-from start from to next q None h k l f = tt
+  end-from start from to next q (Some (end, r)) h k l f =
+      sep-from start (record { lo = from; hi = to; next = next; kind = end }) r (h, k) (omega (arith, f.1))
 
-  next-bounded : (from to : ℕ) (n : Num) → to < 256 → Forth 257 0 n → ReadEntryBounded (entry_next s from to n)
-  unfolding entry_next
-  next-bounded from to Bad h k = tt
-  next-bounded from to (Val next q) h k = end-bounded from to next (end_at s q) h (omega (arith, k.0))
+  next-from : (start from to q : ℕ) (n : Option (ℕ × ℕ)) → to < 256 → start < q → Forth 257 q n → ReadFrom s start (entry_next s from to n)
+  next-from start from to q None h l f = tt
+  next-from start from to q (Some (next, r)) h l f =
+      end-from start from to next r (end_at s r) h (omega (arith, f.0)) (omega (arith, f.1)) (end-forth r)
 
-  to-bounded : (from : ℕ) (n : Num) → Forth 256 0 n → ReadEntryBounded (entry_to s from n)
-  unfolding entry_to
-  to-bounded from Bad k = tt
-  to-bounded from (Val to q) k = next-bounded from to (next_at s q) k.0 (next-forth q)
+  to-from : (start from q : ℕ) (n : Option (ℕ × ℕ)) → start < q → Forth 256 q n → ReadFrom s start (entry_to s from n)
+  to-from start from q None l f = tt
+  to-from start from q (Some (to, r)) l f = next-from start from to r (next_at s r) f.0 (omega (arith, f.1)) (next-forth r)
 
-  from-bounded : (n : Num) → Forth 256 0 n → ReadEntryBounded (entry_from s n)
-  unfolding entry_from
-  from-bounded Bad k = tt
-  from-bounded (Val from q) k = to-bounded from (to_at s from q) (to-forth from q k.0)
+  from-from : (start : ℕ) (n : Option (ℕ × ℕ)) → Forth 256 (start + 1) n → ReadFrom s start (entry_from s n)
+  from-from start None f = tt
+  from-from start (Some (from, q)) f = to-from start from q (to_at s from q) (omega (arith, f.1)) (to-forth from q f.0)
 
-  entry-bounded : (at : ℕ) → ReadEntryBounded (entry_at s at)
+  pub reads-past : (at : ℕ) → ReadFrom s at (entry_at s at)
   unfolding entry_at
-  entry-bounded at = from-bounded (number_at s (skip_at s at)) (number-forth 256 s (skip_at s at) (omega arith))
+  reads-past at =
+      from-from at (number_at s (skip_at s at))
+      (forth-past 256 (at + 1) (skip_at s at + 1) _ (omega (arith, skip-forth at (drop at s))) (number-forth 256 s (skip_at s at) (omega arith)))
 
-  go-bounded : (f : ℕ) (i : ReadEntry) → ReadEntryBounded i → All Bounded (entries_go f s i)
+  go-bounded : (f at : ℕ) (i : ReadEntry) → ReadFrom s at i → All Bounded (entries_go f s i)
   unfolding entries_go
-  go-bounded zero Wrong h = tt
-  go-bounded zero (Last e) h = (h, tt)
-  go-bounded zero (More e q) h = tt
-  go-bounded (suc f) Wrong h = tt
-  go-bounded (suc f) (Last e) h = (h, tt)
-  go-bounded (suc f) (More e q) h = (h, go-bounded f (entry_at s q) (entry-bounded q))
+  go-bounded zero at None h = tt
+  go-bounded zero at (Some (e, None)) h = (h, tt)
+  go-bounded zero at (Some (e, Some q)) h = tt
+  go-bounded (suc f) at None h = tt
+  go-bounded (suc f) at (Some (e, None)) h = (h, tt)
+  go-bounded (suc f) at (Some (e, Some q)) h = (h.0, go-bounded f q (entry_at s q) (reads-past q))
 
-  from_entries : (n : Num) → All Bounded (entries_from s n)
+  from_entries : (n : Option (ℕ × ℕ)) → All Bounded (entries_from s n)
   unfolding entries_from entries_at
-  from_entries Bad = tt
-  from_entries (Val k q) = go-bounded (length s) (entry_at s q) (entry-bounded q)
+  from_entries None = tt
+  from_entries (Some (k, q)) = go-bounded (length s) q (entry_at s q) (reads-past q)
 
   pub entries-bounded : All Bounded (entries_of s)
   unfolding entries_of
   entries-bounded =
       pick-case (All Bounded) (leb (length s) (skip_at s 0)) _ _ (λ _. tt) (λ _. from_entries (open_at s (skip_at s 0)))
+
+-- ## Entry by entry
+
+-- fewer places are left behind an entry than at it
+pub fewer_left : (s : List ℕ) (at : ℕ) (e : Entry) (next : Option ℕ) → Some (e, next) ≡ entry_at s at
+    → places_left (length s) next < places_left (length s) (Some at)
+fewer_left s at e None k = omega arith
+fewer_left s at e (Some q) k = let i = sym k in let h = rw i at (reads-past s at) in omega (arith, h.1, h.2)
+
+module _ (s : List ℕ) where
+  -- more steps than bytes change nothing
+  fuel : (f g at : ℕ) (i : ReadEntry) → ReadFrom s at i → length s ≤ f + at → length s ≤ g + at
+      → (entries_go f s i ≡ entries_go g s i) × (well_go f s i ≡ well_go g s i)
+  unfolding entries_go well_go
+  fuel zero zero at i h a b = (refl, refl)
+  fuel zero (suc g) at None h a b = (refl, refl)
+  fuel zero (suc g) at (Some (e, None)) h a b = (refl, refl)
+  fuel zero (suc g) at (Some (e, Some q)) h a b = absurd (omega (arith, h.1, h.2))
+  fuel (suc f) zero at None h a b = (refl, refl)
+  fuel (suc f) zero at (Some (e, None)) h a b = (refl, refl)
+  fuel (suc f) zero at (Some (e, Some q)) h a b = absurd (omega (arith, h.1, h.2))
+  fuel (suc f) (suc g) at None h a b = (refl, refl)
+  fuel (suc f) (suc g) at (Some (e, None)) h a b = (refl, refl)
+  fuel (suc f) (suc g) at (Some (e, Some q)) h a b =
+      let r = fuel f g q (entry_at s q) (reads-past s q) (omega (arith, h.1)) (omega (arith, h.1)) in
+      (ap (λ (l : List Entry). e ∷ l) r.0, r.1)
+
+  -- the entries from a place on are the one that is read there and those from the next place on
+  go-step : (f at : ℕ) (e : Entry) (next : Option ℕ) → f ≡ length s → ReadFrom s at (Some (e, next))
+      → (entries_go f s (Some (e, next)) ≡ e ∷ rest_at s next) × (well_go f s (Some (e, next)) ≡ well_rest s next)
+  unfolding entries_go well_go entries_at well_at
+  go-step zero at e None k h = (refl, refl)
+  go-step zero at e (Some q) k h = absurd (omega (arith, h.1, h.2))
+  go-step (suc f) at e None k h = (refl, refl)
+  go-step (suc f) at e (Some q) k h =
+      let r = fuel f (length s) q (entry_at s q) (reads-past s q) (omega (arith, h.1)) (omega arith) in
+      (ap (λ (l : List Entry). e ∷ l) r.0, r.1)
+
+  pub entries-step : (at : ℕ) (e : Entry) (next : Option ℕ) → Some (e, next) ≡ entry_at s at
+      → (entries_at s at ≡ e ∷ rest_at s next) × (well_at s at ≡ well_rest s next)
+  unfolding entries_at well_at
+  entries-step at e next k = let h = sym k in rw h (go-step (length s) at e next refl (rw h at (reads-past s at)))
+
+  go-stop : (f : ℕ) → (entries_go f s None ≡ []) × (well_go f s None ≡ false)
+  unfolding entries_go well_go
+  go-stop zero = (refl, refl)
+  go-stop (suc f) = (refl, refl)
+
+  pub entries-stop : (at : ℕ) → None ≡ entry_at s at → (entries_at s at ≡ []) × (well_at s at ≡ false)
+  unfolding entries_at well_at
+  entries-stop at k = rw (sym k) (go-stop (length s))
 
 pub overwritten-length : {A : Type 0} (value : Entry → A) (cs : List Entry) (n : ℕ) (row : List A) → All (λ c. c.hi < n) cs → length row ≡ n → length (overwritten value cs row) ≡ n
 unfolding overwritten

@@ -1,4 +1,6 @@
 -- What is read as a state row is a row of the grammar.
+use Rattle.table.specs.Header.{ReadValue}
+use Rattle.std.specs.Prelude.{Option, Some, None}
 use Prim.Native.Nat.{ℕ, zero, suc, ◌+◌, ◌*◌}
 use mathlib.Core.Path.{◌≡◌, refl, ap, ◌∙◌}
 use mathlib.Core.Logic.{◌⊎◌, inl, inr}
@@ -18,21 +20,16 @@ use Rattle.lists.specs.Strings.{begins}
 use Rattle.table.specs.Row.{to_at, next_at, letter_at, end_at, entry_sep, entry_end, entry_next, entry_to, entry_from, entry_at, entries_go, well_go, entries_at, well_at, comma_at, open_at, entries_from, entries_of, unbuilt_entry, over_entry}
 use Rattle.lists.specs.Tests.{any_of}
 use Rattle.table.specs.Header.{row_from, row_in, value_of}
-use Rattle.table.specs.declared.text.Num.{Num}
-use Rattle.table.specs.declared.text.Num.TheVariants.{Val, Bad}
 use Rattle.table.proofs.Tokens.{at_byte, skip_at⇒Blanks, drop⇒Token, byte_of⇒Token, begins⇒Token, digit-inside, hex_from, hex_from⇒Hex}
 use Rattle.table.proofs.RowRead.{ValueForm, Optional, optional_at, entry-bare}
 use Rattle.table.specs.declared.value.Key.TheVariants.{State}
-use Rattle.table.specs.declared.value.Value.{Value}
-use Rattle.table.specs.declared.value.Value.TheVariants.{Unfit, Row}
-use Rattle.table.specs.declared.row.Entry.{Entry}
-use Rattle.table.specs.declared.row.ReadEntry.{ReadEntry}
-use Rattle.table.specs.declared.row.ReadEntry.TheVariants.{More, Last, Wrong}
+use Rattle.table.specs.declared.value.Value.TheVariants.{Row}
+use Rattle.table.specs.Row.{Entry, ReadEntry}
 
 -- what a reader of a part answers is such a part
-abbrev Part : ValueForm → List ℕ → ℕ → Num → Type 0
-Part X s q Bad = Unit {0}
-Part X s q (Val v e) = X v (drop q s) (drop e s)
+abbrev Part : ValueForm → List ℕ → ℕ → Option (ℕ × ℕ) → Type 0
+Part X s q None = Unit {0}
+Part X s q (Some (v, e)) = X v (drop q s) (drop e s)
 
 number-written : (s : List ℕ) (q : ℕ) → Part Number s q (number_at s (skip_at s q))
 unfolding number_at hex_from
@@ -61,11 +58,11 @@ number-written s q =
 
 -- a sign and such a part, or none
 module _ (x : ℕ) (X : ValueForm) (none : ℕ) (s : List ℕ) where
-  optional-part : (q z : ℕ) (n : Num) → Token (x ∷ []) (drop q s) (drop z s) → Part X s z n → Part (Optional x X none) s q n
-  optional-part q z Bad k a = tt
-  optional-part q z (Val v e) k a = inl (drop z s, k, a)
+  optional-part : (q z : ℕ) (n : Option (ℕ × ℕ)) → Token (x ∷ []) (drop q s) (drop z s) → Part X s z n → Part (Optional x X none) s q n
+  optional-part q z None k a = tt
+  optional-part q z (Some (v, e)) k a = inl (drop z s, k, a)
 
-  optional-written : (f : ℕ → Num) → (x ≡ 256 → ⊥) → ((z : ℕ) → Part X s z (f z)) → (q : ℕ)
+  optional-written : (f : ℕ → Option (ℕ × ℕ)) → (x ≡ 256 → ⊥) → ((z : ℕ) → Part X s z (f z)) → (q : ℕ)
       → Part (Optional x X none) s q (optional_at x f none s q)
   optional-written f n g q =
       pick-case (Part (Optional x X none) s q) (eqb (byte_of s (skip_at s q)) x) _ _
@@ -89,7 +86,7 @@ letter-written s q =
     (λ _. pick-case P (eqb (byte_of s (skip_at s q)) 115) _ _ (λ e. inr (inr (inr (inl (refl, byte_of⇒Token s q 115 e (λ x. omega arith))))))
     (λ _. inr (inr (inr (inr (refl, refl))))))))
   where
-    P : Num → Type 0
+    P : Option (ℕ × ℕ) → Type 0
     P n = Part Letter s q n
 
 kind-written : (s : List ℕ) (q : ℕ) → Part Kind s q (end_at s q)
@@ -100,9 +97,9 @@ kind-written s q = optional-written 46 Letter 0 s (λ p. letter_at s p (skip_at 
 
 -- an entry and what is behind it
 abbrev ReadEntryOf : List ℕ → ℕ → ReadEntry → Type 0
-ReadEntryOf s q Wrong = Unit {0}
-ReadEntryOf s q (Last c) = (r : List ℕ) × EntryText c (drop q s) r × Blanks r
-ReadEntryOf s q (More c z) = (r : List ℕ) × EntryText c (drop q s) r × Token (ascii ",") r (drop z s)
+ReadEntryOf s q None = Unit {0}
+ReadEntryOf s q (Some (c, None)) = (r : List ℕ) × EntryText c (drop q s) r × Blanks r
+ReadEntryOf s q (Some (c, Some z)) = (r : List ℕ) × EntryText c (drop q s) r × Token (ascii ",") r (drop z s)
 
 sep-written : (s : List ℕ) (q z : ℕ) (c : Entry) → EntryText c (drop q s) (drop z s) → ReadEntryOf s q (entry_sep s c (skip_at s z))
 unfolding entry_sep
@@ -112,29 +109,25 @@ sep-written s q z c i =
     (λ e. (drop z s, i, byte_of⇒Token s z 44 e (λ x. omega arith))) (λ _. tt))
 
 module _ (s : List ℕ) (q : ℕ) where
-  end-entry : (lo q1 hi q2 n q3 : ℕ) (x : Num) → Number lo (drop q s) (drop q1 s) → To lo hi (drop q1 s) (drop q2 s)
+  end-entry : (lo q1 hi q2 n q3 : ℕ) (x : Option (ℕ × ℕ)) → Number lo (drop q s) (drop q1 s) → To lo hi (drop q1 s) (drop q2 s)
       → Next n (drop q2 s) (drop q3 s) → Part Kind s q3 x → ReadEntryOf s q (entry_end s lo hi n x)
-  unfolding entry_end
-  end-entry lo q1 hi q2 n q3 Bad a b c d = tt
-  end-entry lo q1 hi q2 n q3 (Val k z) a b c d =
+  end-entry lo q1 hi q2 n q3 None a b c d = tt
+  end-entry lo q1 hi q2 n q3 (Some (k, z)) a b c d =
       sep-written s q z (record { lo = lo; hi = hi; next = n; kind = k })
       (record { behind-lo = drop q1 s; behind-hi = drop q2 s; behind-next = drop q3 s; lo = a; hi = b; next = c; kind = d })
 
-  next-entry : (lo q1 hi q2 : ℕ) (x : Num) → Number lo (drop q s) (drop q1 s) → To lo hi (drop q1 s) (drop q2 s)
+  next-entry : (lo q1 hi q2 : ℕ) (x : Option (ℕ × ℕ)) → Number lo (drop q s) (drop q1 s) → To lo hi (drop q1 s) (drop q2 s)
       → Part Next s q2 x → ReadEntryOf s q (entry_next s lo hi x)
-  unfolding entry_next
-  next-entry lo q1 hi q2 Bad a b c = tt
-  next-entry lo q1 hi q2 (Val n q3) a b c = end-entry lo q1 hi q2 n q3 (end_at s q3) a b c (kind-written s q3)
+  next-entry lo q1 hi q2 None a b c = tt
+  next-entry lo q1 hi q2 (Some (n, q3)) a b c = end-entry lo q1 hi q2 n q3 (end_at s q3) a b c (kind-written s q3)
 
-  to-entry : (lo q1 : ℕ) (x : Num) → Number lo (drop q s) (drop q1 s) → Part (To lo) s q1 x → ReadEntryOf s q (entry_to s lo x)
-  unfolding entry_to
-  to-entry lo q1 Bad a b = tt
-  to-entry lo q1 (Val hi q2) a b = next-entry lo q1 hi q2 (next_at s q2) a b (next-written s q2)
+  to-entry : (lo q1 : ℕ) (x : Option (ℕ × ℕ)) → Number lo (drop q s) (drop q1 s) → Part (To lo) s q1 x → ReadEntryOf s q (entry_to s lo x)
+  to-entry lo q1 None a b = tt
+  to-entry lo q1 (Some (hi, q2)) a b = next-entry lo q1 hi q2 (next_at s q2) a b (next-written s q2)
 
-  from-entry : (x : Num) → Part Number s q x → ReadEntryOf s q (entry_from s x)
-  unfolding entry_from
-  from-entry Bad a = tt
-  from-entry (Val lo q1) a = to-entry lo q1 (to_at s lo q1) a (to-written s lo q1)
+  from-entry : (x : Option (ℕ × ℕ)) → Part Number s q x → ReadEntryOf s q (entry_from s x)
+  from-entry None a = tt
+  from-entry (Some (lo, q1)) a = to-entry lo q1 (to_at s lo q1) a (to-written s lo q1)
 
   entry-written : ReadEntryOf s q (entry_at s q)
   unfolding entry_at
@@ -146,12 +139,12 @@ entries-behind (e ∷ es) r t k (n, i, a) = (t, n, k, i, a)
 
 go-written : (f : ℕ) (s : List ℕ) (q : ℕ) (x : ReadEntry) → ReadEntryOf s q x → well_go f s x ≡ true → Entries (entries_go f s x) (drop q s)
 unfolding well_go entries_go
-go-written zero s q Wrong i w = absurd (clash w refl)
-go-written zero s q (Last c) i w = i
-go-written zero s q (More c z) i w = absurd (clash w refl)
-go-written (suc f) s q Wrong i w = absurd (clash w refl)
-go-written (suc f) s q (Last c) i w = i
-go-written (suc f) s q (More c z) (r, i, k) w =
+go-written zero s q None i w = absurd (clash w refl)
+go-written zero s q (Some (c, None)) i w = i
+go-written zero s q (Some (c, Some z)) i w = absurd (clash w refl)
+go-written (suc f) s q None i w = absurd (clash w refl)
+go-written (suc f) s q (Some (c, None)) i w = i
+go-written (suc f) s q (Some (c, Some z)) (r, i, k) w =
     (r, i, entries-behind (entries_go f s (entry_at s z)) r (drop z s) k (go-written f s z (entry_at s z) (entry-written s z) w))
 
 -- where every entry from a place on has its form, they are the grammar's
@@ -162,11 +155,11 @@ entries-written s q w = go-written (length s) s q (entry_at s q) (entry-written 
 -- ## Rows
 
 -- behind what opens a row, entries make it a row
-abbrev Opens : List ℕ → Num → Type 0
-Opens v Bad = Unit {0}
-Opens v (Val k q) = well_at v q ≡ true → RowValue k (entries_at v q) v
+abbrev Opens : List ℕ → Option (ℕ × ℕ) → Type 0
+Opens v None = Unit {0}
+Opens v (Some (k, q)) = well_at v q ≡ true → RowValue k (entries_at v q) v
 
-plain-opens : (v : List ℕ) → Opens v (Val 0 (skip_at v 0))
+plain-opens : (v : List ℕ) → Opens v (Some (0, skip_at v 0))
 unfolding well_at entries_at
 plain-opens v = rw (entry-bare v 0) (λ w. inl (refl, inr (entries-written v 0 w)))
 
@@ -189,23 +182,23 @@ open-written v =
     (λ _. plain-opens v))
 
 -- x is no row, or v is the grammar's row of these entries and x says of it what they do
-abbrev RowOf : List ℕ → List Entry → Value → Type 0
+abbrev RowOf : List ℕ → List Entry → ReadValue → Type 0
 RowOf v es x =
-    (x ≡ Unfit)
-    ⊎ ((k : ℕ) × (l : Bool) × (o : Bool) × (x ≡ Row k l o) × RowValue k es v × (l ≡ any_of unbuilt_entry es) × (o ≡ any_of over_entry es))
+    (x ≡ None)
+    ⊎ ((k : ℕ) × (l : Bool) × (o : Bool) × (x ≡ Some (Row k l o)) × RowValue k es v × (l ≡ any_of unbuilt_entry es) × (o ≡ any_of over_entry es))
 
-from-cases : (v : List ℕ) (n : Num) → Opens v n → RowOf v (entries_from v n) (row_from v n)
+from-cases : (v : List ℕ) (n : Option (ℕ × ℕ)) → Opens v n → RowOf v (entries_from v n) (row_from v n)
 unfolding row_from entries_from
-from-cases v Bad h = inl refl
-from-cases v (Val k q) h =
+from-cases v None h = inl refl
+from-cases v (Some (k, q)) h =
     pick-case (RowOf v (entries_at v q)) (well_at v q) _ _
     (λ w. inr (k, any_of unbuilt_entry (entries_at v q), any_of over_entry (entries_at v q), refl, h w, refl, refl)) (λ _. inl refl)
 
 -- a value is no row, or the grammar's row of the entries that are read
 abbrev pub RowCase : List ℕ → Type 0
 RowCase v =
-    (value_of State v ≡ Unfit)
-    ⊎ ((k : ℕ) × (l : Bool) × (o : Bool) × (value_of State v ≡ Row k l o) × RowValue k (entries_of v) v
+    (value_of State v ≡ None)
+    ⊎ ((k : ℕ) × (l : Bool) × (o : Bool) × (value_of State v ≡ Some (Row k l o)) × RowValue k (entries_of v) v
     × (l ≡ any_of unbuilt_entry (entries_of v)) × (o ≡ any_of over_entry (entries_of v)))
 
 pub row-cases : (v : List ℕ) → RowCase v
@@ -213,6 +206,6 @@ unfolding value_of row_in entries_of any_of
 row-cases v = by_end (leb (length v) (skip_at v 0)) refl
   where
     by_end : (x : Bool) → leb (length v) (skip_at v 0) ≡ x
-        → RowOf v (pick x [] (entries_from v (open_at v (skip_at v 0)))) (pick x (Row 0 false false) (row_from v (open_at v (skip_at v 0))))
+        → RowOf v (pick x [] (entries_from v (open_at v (skip_at v 0)))) (pick x (Some (Row 0 false false)) (row_from v (open_at v (skip_at v 0))))
     by_end true e = inr (0, false, false, refl, inl (refl, inl (refl, skip_at⇒Blanks v 0 (leb-true (length v) (skip_at v 0) e))), refl, refl)
     by_end false e = from-cases v (open_at v (skip_at v 0)) (open-written v)

@@ -1,4 +1,7 @@
 -- Reading line by line: a turn of the loop in terms of what is left to read, and what the memory holds before, between and after.
+use Rattle.std.specs.Prelude.{Some, None}
+use Rattle.table.specs.Header.{ReadLine}
+use Rattle.std.specs.Prelude.{Result, Ok, Err, ⊤, is_err, OnOk}
 use Prim.Native.Nat.{ℕ, zero, suc, ◌+◌, ◌-◌, ◌<◌, ◌≤◌}
 use mathlib.Core.Path.{◌≡◌, refl, sym, ap, subst, ◌∙◌}
 use mathlib.Core.Bool.{Bool, true, false}
@@ -24,41 +27,33 @@ use Rattle.table.specs.Keys.{Keys}
 use Rattle.table.specs.Text.{lines_of}
 use Rattle.table.specs.Header.{header_line_of}
 use Rattle.table.specs.Mapping.{BodyLine, no_form, reserved, blank, ending, mapping, body_line_of, after_end_of}
-use Rattle.table.specs.Numbers.{lowest, n1}
+use Rattle.table.specs.Numbers.{Loaded, Verdict, lowest, n1}
 use Rattle.table.specs.Load.{Reading, LineStep, goes_on, stop, reading, header_asks, mapping_asks, last_asks, phase_asks, line_asks, line_step, table_of, Outcome, accepted, refused, outcome_at, load_go, load_of, untouched, read, given, left_by, loaded_as, states_of, codes_of, infos_of, ordered_of, left_in}
-use Rattle.table.specs.loops.Progress.{keys_in, empty_head, Holding, StepTaken, progress}
+use Rattle.table.specs.loops.Progress.{keys_in, empty_head, Holding, StepTaken}
 use Rattle.table.specs.declared.header.Head.{Head}
 use Rattle.table.specs.declared.header.HeaderLine.TheVariants as header
 use Rattle.table.specs.declared.load.Refusal.{Refusal}
 use Rattle.table.specs.declared.load.Refusal.TheVariants as refusal
 use Rattle.table.specs.declared.load.Phase.{Phase}
 use Rattle.table.specs.declared.load.Phase.TheVariants.{Header, Mappings, Ended}
-use Rattle.table.specs.declared.load.Answer.TheVariants.{Accepted}
-use Rattle.table.specs.declared.load.Loaded.{Loaded}
-use Rattle.table.specs.declared.load.Progress.{Progress}
-use Rattle.table.specs.declared.load.LineOutcome.{LineOutcome}
-use Rattle.table.specs.declared.load.LineOutcome.TheVariants as outcome
 use Rattle.table.specs.declared.valid.Record.{Record}
 use Rattle.table.proofs.LinesLaws.{lines_cut, lines_end}
 use Rattle.table.proofs.Packing.{length-unpacked, pack-unpack}
 use Rattle.table.proofs.NumbersBack.{sub1_of-sub1_in}
 use Rattle.table.proofs.KeyLaws.{min_of-keys_in, max_of-keys_in, subchar_of-keys_in}
 use Rattle.table.proofs.Judged.{judged-goes-on}
+use Rattle.table.proofs.LowestLaws.{fine-refuse}
 use Rattle.table.proofs.Accepted.{accepted-keeps-rules}
-use Rattle.table.specs.declared.header.HeaderLine.{HeaderLine}
 use Rattle.lists.specs.Place.{filled}
 use Rattle.lists.proofs.Place.{take-filled-[]}
 use Rattle.table.specs.loops.Coded.{first_line, rest_lines}
 
-stop-on : (x : Refusal) (q : Progress) → outcome.Stop x ≡ outcome.On q → ⊥
-stop-on x q e = let z : ◌≡◌ {A = ℕ} 0 1 = cc in omega arith
-
 -- a line after which it goes on: what was read up to there is what the memory holds
-pub record Goes (lim : Limits) (t : LineStep) (q : Progress) (m : Slices) : Type 0 where
+pub record Goes (lim : Limits) (t : LineStep) (p : Phase) (h : Head) (n : ℕ) (m : Slices) : Type 0 where
   pub rows : List (List Cell)
   pub lines : List Line
-  pub step_is : t ≡ goes_on (reading q.phase (keys_in q.head) rows lines)
-  pub holding : Holding lim q.head q.mappings rows lines m
+  pub step_is : t ≡ goes_on (reading p (keys_in h) rows lines)
+  pub holding : Holding lim h n rows lines m
 
 last-phase : (h : Keys) (rows : List (List Cell)) (ls : List Line) (f : BodyLine)
     → (last_asks h rows ls f).behind.phase ≡ Header
@@ -88,28 +83,24 @@ module _ (lim : Limits) where
   unfolding load_go
   run_end s at k r h = ap (λ (ls : List (List ℕ)). load_go lowest lim k ls (goes_on r)) (lines_end s at h)
 
-  -- a line at which the function stops
-  pub taken-stop : (t : LineStep) (r : LineOutcome) (x : Refusal) (m : Slices) → StepTaken lim t r m → r ≡ outcome.Stop x → t ≡ stop x
-  taken-stop (stop y) r x m h e = let d : outcome.Stop y ≡ outcome.Stop x = sym h ∙ e in cc
-  taken-stop (goes_on g) r x m h e = absurd (stop-on x _ (sym e ∙ h.1))
+  -- a line at which the function stops, and one after which it goes on
+  module _ (p : Phase) (h : Head) (n : ℕ) (m : Slices) where
+    pub taken-stop : (t : LineStep) (r : Result ⊤ Refusal) (x : Refusal) → StepTaken lim t r p h n m → r ≡ Err x → t ≡ stop x
+    taken-stop (stop y) r x k e = let d : ◌≡◌ {A = Verdict} (Err y) (Err x) = sym k ∙ e in cc
+    taken-stop (goes_on g) r x k e = absurd (fine-refuse x (sym k.0 ∙ e))
 
-  pub taken-on : (t : LineStep) (r : LineOutcome) (q : Progress) (m : Slices) → StepTaken lim t r m → r ≡ outcome.On q → Goes lim t q m
-  taken-on (stop y) r q m h e = absurd (stop-on y q (sym h ∙ e))
-  taken-on (goes_on g) r q m h e =
-      let d : outcome.On (progress g.phase h.0 (length g.lines)) ≡ outcome.On q = sym h.1 ∙ e in
-      let f : progress g.phase h.0 (length g.lines) ≡ q = cc in
-      let k : goes_on g ≡ goes_on (reading g.phase (keys_in h.0) g.rows g.lines) =
-      ap (λ (x : Keys). goes_on (reading g.phase x g.rows g.lines)) (sym h.2) in
-      subst (λ (p : Progress). Goes lim (goes_on g) p m) f
-      (record { rows = g.rows; lines = g.lines; step_is = k; holding = h.3 })
+    pub taken-on : (t : LineStep) (r : Result ⊤ Refusal) → StepTaken lim t r p h n m → r ≡ Ok tt → Goes lim t p h n m
+    taken-on (stop y) r k e = absurd (fine-refuse y (sym e ∙ k))
+    taken-on (goes_on g) r k e =
+        record { rows = g.rows; lines = g.lines; step_is = (λ j. goes_on (reading (sym k.1 j) (sym k.2 j) g.rows g.lines)); holding = k.3 }
 
   -- before CHARMAP no mapping is read
-  header-lines : (h : Keys) (rows : List (List Cell)) (s : List ℕ) (l : HeaderLine)
+  header-lines : (h : Keys) (rows : List (List Cell)) (s : List ℕ) (l : ReadLine)
       → [] ≡ (header_asks lim h rows s l).behind.lines
-  header-lines h rows s header.NoForm = refl
-  header-lines h rows s header.Blank = refl
-  header-lines h rows s header.Charmap = refl
-  header-lines h rows s (header.Known k v q e) = refl
+  header-lines h rows s None = refl
+  header-lines h rows s (Some header.Blank) = refl
+  header-lines h rows s (Some header.Charmap) = refl
+  header-lines h rows s (Some (header.Known k v q e)) = refl
 
   mapping-phase : (h : Keys) (rows : List (List Cell)) (ls : List Line) (f : BodyLine)
       → (mapping_asks lim h rows ls f).behind.phase ≡ Header
@@ -238,8 +229,8 @@ record-left lim text p h n rows ls m one held e =
 pub accepted-as : (out : Outcome) (t : Table) (r : Record)
     → out ≡ accepted t
     → r ≡ record_of t
-    → ◌≡◌ {A = Loaded} (record { answer = Accepted; line = 0; table = r }) (loaded_as out)
-accepted-as out t r e n = (λ j. record { answer = Accepted; line = 0; table = n j }) ∙ sym (ap loaded_as e)
+    → ◌≡◌ {A = Loaded} (Ok r) (loaded_as out)
+accepted-as out t r e n = ap (λ (x : Record). Ok x) n ∙ sym (ap loaded_as e)
 
 -- whether the memory and the text fit
 pub long-enough : (lim : Limits) (m : Slices)
@@ -285,3 +276,12 @@ slices-left lim out s c i o s1 c1 i1 o1 s2 c2 i2 o2 zs zc zi zo hs hc hi ho = λ
     (zeroed-left (needed lim) states_of out s s1 s2 zs hs j) (zeroed-left lim.mappings codes_of out c c1 c2 zc hc j)
     (zeroed-left lim.mappings infos_of out i i1 i2 zi hi j)
     (zeroed-left lim.mappings ordered_of out o o1 o2 zo ho j)
+
+-- a text that is refused, and what is left of one that is not
+pub out-refused : (out : Outcome) (r : Loaded) → r ≡ loaded_as out → is_err r ≡ true → (x : Refusal) × (k : ℕ) × (out ≡ refused x k)
+out-refused (accepted t) r e h = absurd (clash (sym (ap is_err e) ∙ h) refl)
+out-refused (refused x k) r e h = (x, k, refl)
+
+pub left-after : (r : Loaded) (P : Type 0) → is_err r ≡ false → OnOk r P → P
+left-after (Ok rec) P e p = p
+left-after (Err x) P e p = absurd (clash refl e)

@@ -1,6 +1,7 @@
 -- Tokens `\xhh` and `<U..>`, and series of them with `+` or without: what the grammar has is read, and what is read the grammar has.
 -- byte-reader, point-reader     the two readers of tokens         series-read, series-written    series of any such tokens
 -- bytes_read, bytes-written     series of bytes                   points-counted                 code points, as `points_more` counts them
+use Rattle.std.specs.Prelude.{Option, Some, None}
 use Prim.Native.Nat.{ℕ, zero, suc, ◌+◌, ◌*◌, ◌<◌, ◌≤◌}
 use mathlib.Core.Path.{◌≡◌, refl, sym, ap, ◌∙◌, subst}
 use mathlib.Core.Logic.{inl, inr}
@@ -16,32 +17,30 @@ use Rattle.table.specs.Grammar as grammar
 use Rattle.table.specs.Grammar.{Token, Hex, Digits, Point, Byte, More}
 use Rattle.table.specs.Text.{digit_of, byte_of, skip_at, byte_at, point_digits, unicode_at, plus_at, join_at, ByteSeries, series, broken, with_byte, bytes_more, bytes_from, bytes_at}
 use Rattle.table.specs.Mapping.{points_more}
-use Rattle.table.specs.declared.text.Num.{Num}
-use Rattle.table.specs.declared.text.Num.TheVariants.{Val, Bad}
 use Rattle.table.proofs.TextLaws.{digit-most}
 use Rattle.table.proofs.Tokens.{strip, first, drop⇒byte_of-+, drop⇒byte_of, drop⇒skip_at, at_byte, Solid, token-front, Token⇒skip_at, Token⇒past, token-less, drop⇒Token, byte_of⇒Token, digit-inside, digit_value, digit_of⇒Digit, hex_from, Hex⇒AllDigits, Hex⇒hex_from}
 use Rattle.lists.proofs.Parts.{drop-+, drop⇒length}
 
 -- what is read behind q, if anything, is a token X
-abbrev TokenOf : (ℕ → List ℕ → List ℕ → Type 0) → List ℕ → ℕ → Num → Type 0
-TokenOf X s q Bad = Unit {0}
-TokenOf X s q (Val v e) = X v (drop q s) (drop e s)
+abbrev TokenOf : (ℕ → List ℕ → List ℕ → Type 0) → List ℕ → ℕ → Option (ℕ × ℕ) → Type 0
+TokenOf X s q None = Unit {0}
+TokenOf X s q (Some (v, e)) = X v (drop q s) (drop e s)
 
 -- `at` reads the tokens X, which begin with the byte x
-pub record TokenReader (X : ℕ → List ℕ → List ℕ → Type 0) (x : ℕ) (at : List ℕ → ℕ → Num) : Type 0 where
+pub record TokenReader (X : ℕ → List ℕ → List ℕ → Type 0) (x : ℕ) (at : List ℕ → ℕ → Option (ℕ × ℕ)) : Type 0 where
   pub solid : Solid (x ∷ [])
   pub no_plus : x ≡ 43 → ⊥
   -- a token of the grammar is read as its value, and the place behind it
   pub read : (v : ℕ) (t r : List ℕ) → X v t r
-      → (w : List ℕ) × Token (x ∷ w) t r × ((s : List ℕ) (p : ℕ) → drop p s ≡ x ∷ (w ++ r) → at s p ≡ Val v (p + suc (length w)))
+      → (w : List ℕ) × Token (x ∷ w) t r × ((s : List ℕ) (p : ℕ) → drop p s ≡ x ∷ (w ++ r) → at s p ≡ Some (v, p + suc (length w)))
   -- none is read where x does not stand
-  pub none : (s : List ℕ) (p : ℕ) → (byte_of s p ≡ x → ⊥) → at s p ≡ Bad
+  pub none : (s : List ℕ) (p : ℕ) → (byte_of s p ≡ x → ⊥) → at s p ≡ None
   -- what is read is a token of the grammar
   pub written : (s : List ℕ) (q : ℕ) → TokenOf X s q (at s (skip_at s q))
 
 -- ## `\xhh`
 
-byte_reads : (s : List ℕ) (p v a b : ℕ) (r : List ℕ) → Hex 0 (a ∷ b ∷ []) v → drop p s ≡ 92 ∷ 120 ∷ a ∷ b ∷ r → byte_at s p ≡ Val v (p + 4)
+byte_reads : (s : List ℕ) (p v a b : ℕ) (r : List ℕ) → Hex 0 (a ∷ b ∷ []) v → drop p s ≡ 92 ∷ 120 ∷ a ∷ b ∷ r → byte_at s p ≡ Some (v, p + 4)
 unfolding byte_at hex_from
 byte_reads s p v a b r x h =
     let t : List ℕ = 92 ∷ 120 ∷ a ∷ b ∷ r in
@@ -50,7 +49,7 @@ byte_reads s p v a b r x h =
     let i = drop⇒byte_of-+ s p in
     rw (drop⇒byte_of s p t h, i 1 t h, i 2 t h, i 3 t h, lt-ltb (digit_of a) 16 d.0, lt-ltb (digit_of b) 16 d.1.0, e)
 
-byte-none : (s : List ℕ) (p : ℕ) → (byte_of s p ≡ 92 → ⊥) → byte_at s p ≡ Bad
+byte-none : (s : List ℕ) (p : ℕ) → (byte_of s p ≡ 92 → ⊥) → byte_at s p ≡ None
 unfolding byte_at
 byte-none s p n = rw (ne_eqb (byte_of s p) 92 n)
 
@@ -73,10 +72,10 @@ byte-written s q =
     b : ℕ
     b = byte_of s (at + 3)
 
-    P : Num → Type 0
+    P : Option (ℕ × ℕ) → Type 0
     P n = TokenOf Byte s q n
 
-    made : byte_of s at ≡ 92 → byte_of s (at + 1) ≡ 120 → digit_of a < 16 → digit_of b < 16 → P (Val (digit_of a * 16 + digit_of b) (at + 4))
+    made : byte_of s at ≡ 92 → byte_of s (at + 1) ≡ 120 → digit_of a < 16 → digit_of b < 16 → P (Some (digit_of a * 16 + digit_of b, at + 4))
     made i j k l =
         let e0 = at_byte s at (at + 1) 92 refl i (λ x. omega arith) in
         let e1 = at_byte s (at + 1) (at + 2) 120 (omega arith) j (λ x. omega arith) in
@@ -103,7 +102,7 @@ unfolding digit_of
 no-close d h e = let k : 16 < 16 = rw e at h in omega arith
 
 hex-reads : (n v at : ℕ) (ds r : List ℕ) (u : ℕ) → Hex v ds u → 1 ≤ n + length ds → n + length ds ≤ 6
-    → point_digits n v at ((ds ++ (62 ∷ [])) ++ r) ≡ Val u (at + length (ds ++ (62 ∷ [])))
+    → point_digits n v at ((ds ++ (62 ∷ [])) ++ r) ≡ Some (u, at + length (ds ++ (62 ∷ [])))
 unfolding point_digits
 hex-reads n v at [] r u h one six = rw (ne_eqb n 0 (λ e. omega arith), h)
 hex-reads n v at (d ∷ ds) r u (x, k, h) one six =
@@ -114,27 +113,27 @@ hex-reads n v at (d ∷ ds) r u (x, k, h) one six =
     (hex-reads (n + 1) (v * 16 + x) (at + 1) ds r u h (omega arith) (omega arith))
 
 point-reads : (s : List ℕ) (p u : ℕ) (ds r : List ℕ) → Digits 6 u ds → drop p s ≡ 60 ∷ 85 ∷ ((ds ++ (62 ∷ [])) ++ r)
-    → unicode_at s p ≡ Val u (p + suc (length (85 ∷ (ds ++ (62 ∷ [])))))
+    → unicode_at s p ≡ Some (u, p + suc (length (85 ∷ (ds ++ (62 ∷ [])))))
 unfolding unicode_at
 point-reads s p u ds r (one, six, x) h =
     let t : List ℕ = 60 ∷ 85 ∷ ((ds ++ (62 ∷ [])) ++ r) in
     let e : p + suc (suc (length (ds ++ (62 ∷ [])))) ≡ p + 2 + length (ds ++ (62 ∷ [])) = omega arith in
     rw (drop⇒byte_of s p t h, drop⇒byte_of-+ s p 1 t h, drop-+ s p 2 t h, e) (hex-reads 0 0 (p + 2) ds r u x (omega arith) (omega arith))
 
-point-none : (s : List ℕ) (p : ℕ) → (byte_of s p ≡ 60 → ⊥) → unicode_at s p ≡ Bad
+point-none : (s : List ℕ) (p : ℕ) → (byte_of s p ≡ 60 → ⊥) → unicode_at s p ≡ None
 unfolding unicode_at
 point-none s p n = rw (ne_eqb (byte_of s p) 60 n)
 
 module _ (s : List ℕ) where
-  abbrev HexOf : ℕ → ℕ → ℕ → Num → Type 0
-  HexOf n v at Bad = Unit {0}
-  HexOf n v at (Val u e) =
+  abbrev HexOf : ℕ → ℕ → ℕ → Option (ℕ × ℕ) → Type 0
+  HexOf n v at None = Unit {0}
+  HexOf n v at (Some (u, e)) =
       (ds : List ℕ) × Hex v ds u × (1 ≤ n + length ds) × (n + length ds ≤ 6) × (drop at s ≡ (ds ++ (62 ∷ [])) ++ drop e s)
 
-  hex-next : (n v at b : ℕ) (bs : List ℕ) (r : Num) → drop at s ≡ b ∷ bs → digit_of b < 16 → HexOf (n + 1) (v * 16 + digit_of b) (at + 1) r
+  hex-next : (n v at b : ℕ) (bs : List ℕ) (r : Option (ℕ × ℕ)) → drop at s ≡ b ∷ bs → digit_of b < 16 → HexOf (n + 1) (v * 16 + digit_of b) (at + 1) r
       → HexOf n v at r
-  hex-next n v at b bs Bad l d h = tt
-  hex-next n v at b bs (Val u e) l d (ds, x, one, six, k) =
+  hex-next n v at b bs None l d h = tt
+  hex-next n v at b bs (Some (u, e)) l d (ds, x, one, six, k) =
       (b ∷ ds, (digit_of b, digit_of⇒Digit b d, x), omega arith, omega arith, l ∙ ap (λ (r : List ℕ). b ∷ r) (sym (drop-+ s at 1 (b ∷ bs) l) ∙ k))
 
   hex-written : (n v at : ℕ) (l : List ℕ) → drop at s ≡ l → n ≤ 6 → HexOf n v at (point_digits n v at l)
@@ -152,13 +151,13 @@ module _ (s : List ℕ) where
       hex-next n v at b bs (point_digits (n + 1) (v * 16 + digit_of b) (at + 1) bs) h (omega (arith, digit-most b))
       (hex-written (n + 1) (v * 16 + digit_of b) (at + 1) bs behind (omega arith)))))
     where
-      P : Num → Type 0
+      P : Option (ℕ × ℕ) → Type 0
       P r = HexOf n v at r
 
-  point-made : (q : ℕ) (r : Num) → byte_of s (skip_at s q) ≡ 60 → byte_of s (skip_at s q + 1) ≡ 85 → HexOf 0 0 (skip_at s q + 2) r
+  point-made : (q : ℕ) (r : Option (ℕ × ℕ)) → byte_of s (skip_at s q) ≡ 60 → byte_of s (skip_at s q + 1) ≡ 85 → HexOf 0 0 (skip_at s q + 2) r
       → TokenOf Point s q r
-  point-made q Bad i j h = tt
-  point-made q (Val u e) i j (ds, x, one, six, k) =
+  point-made q None i j h = tt
+  point-made q (Some (u, e)) i j (ds, x, one, six, k) =
       let p : ℕ = skip_at s q in
       let e0 = at_byte s p (p + 1) 60 refl i (λ z. omega arith) in
       let e1 = at_byte s (p + 1) (p + 2) 85 (omega arith) j (λ z. omega arith) in (
@@ -179,7 +178,7 @@ module _ (s : List ℕ) where
       at : ℕ
       at = skip_at s q
 
-      P : Num → Type 0
+      P : Option (ℕ × ℕ) → Type 0
       P r = TokenOf Point s q r
 
 pub point-reader : TokenReader Point 60 unicode_at
@@ -237,34 +236,34 @@ module _ (X : ℕ → List ℕ → List ℕ → Type 0) where
   with-series s q v e broken b h = tt
   with-series s q v e (series c m z) b h = (drop e s, b, h)
 
-module _ (at : List ℕ → ℕ → Num) where
+module _ (at : List ℕ → ℕ → Option (ℕ × ℕ)) where
   -- as `bytes_more` and `bytes_at`, for the tokens that this reads
-  unfoldable pub more_at : ℕ → List ℕ → ℕ → Num → ByteSeries
-  more_at zero s q Bad = pick (plus_at s q) broken (series [] false q)
-  more_at zero s q (Val v e) = broken
-  more_at (suc f) s q Bad = pick (plus_at s q) broken (series [] false q)
-  more_at (suc f) s q (Val v e) = with_byte v (plus_at s q) (more_at f s e (at s (join_at s e)))
+  unfoldable pub more_at : ℕ → List ℕ → ℕ → Option (ℕ × ℕ) → ByteSeries
+  more_at zero s q None = pick (plus_at s q) broken (series [] false q)
+  more_at zero s q (Some (v, e)) = broken
+  more_at (suc f) s q None = pick (plus_at s q) broken (series [] false q)
+  more_at (suc f) s q (Some (v, e)) = with_byte v (plus_at s q) (more_at f s e (at s (join_at s e)))
 
-  abbrev pub series_from : List ℕ → Num → ByteSeries
-  series_from s Bad = broken
-  series_from s (Val v e) = with_byte v false (more_at (length s) s e (at s (join_at s e)))
+  abbrev pub series_from : List ℕ → Option (ℕ × ℕ) → ByteSeries
+  series_from s None = broken
+  series_from s (Some (v, e)) = with_byte v false (more_at (length s) s e (at s (join_at s e)))
 
   abbrev pub series_at : List ℕ → ℕ → ByteSeries
   series_at s q = series_from s (at s (skip_at s q))
 
-  more-none : (f : ℕ) (s : List ℕ) (q : ℕ) → plus_at s q ≡ false → more_at f s q Bad ≡ series [] false q
+  more-none : (f : ℕ) (s : List ℕ) (q : ℕ) → plus_at s q ≡ false → more_at f s q None ≡ series [] false q
   unfolding more_at
   more-none zero s q e = rw e
   more-none (suc f) s q e = rw e
 
   more-step : (f : ℕ) (s : List ℕ) (q v e : ℕ) (p : Bool) (c : List ℕ) (m : Bool) (z : ℕ)
-      → plus_at s q ≡ p → more_at f s e (at s (join_at s e)) ≡ series c m z → more_at (suc f) s q (Val v e) ≡ series (v ∷ c) (pick p true m) z
+      → plus_at s q ≡ p → more_at f s e (at s (join_at s e)) ≡ series c m z → more_at (suc f) s q (Some (v, e)) ≡ series (v ∷ c) (pick p true m) z
   unfolding more_at
   more-step f s q v e p c m z i g = rw (i, g)
 
-module _ {X : ℕ → List ℕ → List ℕ → Type 0} {x : ℕ} {at : List ℕ → ℕ → Num} (a : TokenReader X x at) where
+module _ {X : ℕ → List ℕ → List ℕ → Type 0} {x : ℕ} {at : List ℕ → ℕ → (Option (ℕ × ℕ))} (a : TokenReader X x at) where
   -- a token, where it stands and what lies behind it
-  token-read : (s : List ℕ) (q v : ℕ) (t r : List ℕ) → X v t r → drop q s ≡ t → (e : ℕ) × (at s (skip_at s q) ≡ Val v e) × (drop e s ≡ r)
+  token-read : (s : List ℕ) (q v : ℕ) (t r : List ℕ) → X v t r → drop q s ≡ t → (e : ℕ) × (at s (skip_at s q) ≡ Some (v, e)) × (drop e s ≡ r)
   token-read s q v t r b h =
       let k = a.read v t r b in
       let w : List ℕ = x ∷ k.0 in
@@ -317,28 +316,28 @@ module _ {X : ℕ → List ℕ → List ℕ → Type 0} {x : ℕ} {at : List ℕ
       (g.0, rw (k.1, g.1), g.2)
 
   -- and what is read the grammar has
-  step-written : (s : List ℕ) (q v e : ℕ) (p : Bool) → plus_at s q ≡ p → at s (join_at s q) ≡ Val v e → OneMore X p v (drop q s) (drop e s)
+  step-written : (s : List ℕ) (q v e : ℕ) (p : Bool) → plus_at s q ≡ p → at s (join_at s q) ≡ Some (v, e) → OneMore X p v (drop q s) (drop e s)
   step-written s q v e true i h =
       let j : ℕ = skip_at s q + 1 in
-      let k : at s (skip_at s j) ≡ Val v e = sym (ap (at s) (join-plus s q i)) ∙ h in
+      let k : at s (skip_at s j) ≡ Some (v, e) = sym (ap (at s) (join-plus s q i)) ∙ h in
       (drop j s, byte_of⇒Token s q 43 i (λ z. omega arith), subst (TokenOf X s j) k (a.written s j))
   step-written s q v e false i h =
-      let k : at s (skip_at s q) ≡ Val v e = sym (ap (at s) (join-none s q i)) ∙ h in
+      let k : at s (skip_at s q) ≡ Some (v, e) = sym (ap (at s) (join-none s q i)) ∙ h in
       subst (TokenOf X s q) k (a.written s q)
 
-  more-written : (f : ℕ) (s : List ℕ) (q : ℕ) (n : Num) → at s (join_at s q) ≡ n → MoreOf X s q (more_at at f s q n)
+  more-written : (f : ℕ) (s : List ℕ) (q : ℕ) (n : Option (ℕ × ℕ)) → at s (join_at s q) ≡ n → MoreOf X s q (more_at at f s q n)
   unfolding more_at
-  more-written zero s q Bad h = pick-case (MoreOf X s q) (plus_at s q) broken (series [] false q) (λ _. tt) (λ _. (refl, refl))
-  more-written zero s q (Val v e) h = tt
-  more-written (suc f) s q Bad h = pick-case (MoreOf X s q) (plus_at s q) broken (series [] false q) (λ _. tt) (λ _. (refl, refl))
-  more-written (suc f) s q (Val v e) h =
-      let n : Num = at s (join_at s e) in
+  more-written zero s q None h = pick-case (MoreOf X s q) (plus_at s q) broken (series [] false q) (λ _. tt) (λ _. (refl, refl))
+  more-written zero s q (Some (v, e)) h = tt
+  more-written (suc f) s q None h = pick-case (MoreOf X s q) (plus_at s q) broken (series [] false q) (λ _. tt) (λ _. (refl, refl))
+  more-written (suc f) s q (Some (v, e)) h =
+      let n : (Option (ℕ × ℕ)) = at s (join_at s e) in
       with-more X s q v e (plus_at s q) (more_at at f s e n) (step-written s q v e (plus_at s q) refl h) (more-written f s e n refl)
 
-  from-written : (s : List ℕ) (q : ℕ) (n : Num) → TokenOf X s q n → SeriesOf X s q (series_from at s n)
-  from-written s q Bad h = tt
-  from-written s q (Val v e) h =
-      let n : Num = at s (join_at s e) in
+  from-written : (s : List ℕ) (q : ℕ) (n : Option (ℕ × ℕ)) → TokenOf X s q n → SeriesOf X s q (series_from at s n)
+  from-written s q None h = tt
+  from-written s q (Some (v, e)) h =
+      let n : (Option (ℕ × ℕ)) = at s (join_at s e) in
       with-series X s q v e (more_at at (length s) s e n) h (more-written (length s) s e n refl)
 
   pub series-written : (s : List ℕ) (q : ℕ) → SeriesOf X s q (series_at at s q)
@@ -346,16 +345,16 @@ module _ {X : ℕ → List ℕ → List ℕ → Type 0} {x : ℕ} {at : List ℕ
 
 -- ## Bytes
 
-bytes-more : (f : ℕ) (s : List ℕ) (q : ℕ) (n : Num) → bytes_more f s q n ≡ more_at byte_at f s q n
+bytes-more : (f : ℕ) (s : List ℕ) (q : ℕ) (n : Option (ℕ × ℕ)) → bytes_more f s q n ≡ more_at byte_at f s q n
 unfolding bytes_more more_at
-bytes-more zero s q Bad = refl
-bytes-more zero s q (Val v e) = refl
-bytes-more (suc f) s q Bad = refl
-bytes-more (suc f) s q (Val v e) = ap (with_byte v (plus_at s q)) (bytes-more f s e (byte_at s (join_at s e)))
+bytes-more zero s q None = refl
+bytes-more zero s q (Some (v, e)) = refl
+bytes-more (suc f) s q None = refl
+bytes-more (suc f) s q (Some (v, e)) = ap (with_byte v (plus_at s q)) (bytes-more f s e (byte_at s (join_at s e)))
 
-bytes-from : (s : List ℕ) (n : Num) → bytes_from s n ≡ series_from byte_at s n
-bytes-from s Bad = refl
-bytes-from s (Val v e) = ap (with_byte v false) (bytes-more (length s) s e (byte_at s (join_at s e)))
+bytes-from : (s : List ℕ) (n : Option (ℕ × ℕ)) → bytes_from s n ≡ series_from byte_at s n
+bytes-from s None = refl
+bytes-from s (Some (v, e)) = ap (with_byte v false) (bytes-more (length s) s e (byte_at s (join_at s e)))
 
 bytes-series : (s : List ℕ) (q : ℕ) → bytes_at s q ≡ series_at byte_at s q
 unfolding bytes_at
@@ -379,11 +378,11 @@ abbrev pub several : ℕ → List ℕ → ℕ
 several n [] = n
 several n (u ∷ us) = 1
 
-abbrev pub counted : ℕ → ByteSeries → Num
-counted n broken = Bad
-counted n (series us joined e) = Val (several n us) e
+abbrev pub counted : ℕ → ByteSeries → Option (ℕ × ℕ)
+counted n broken = None
+counted n (series us joined e) = Some (several n us, e)
 
-counted_none : (p : Bool) (n q : ℕ) → pick p Bad (Val n q) ≡ counted n (pick p broken (series [] false q))
+counted_none : (p : Bool) (n q : ℕ) → pick p None (Some (n, q)) ≡ counted n (pick p broken (series [] false q))
 counted_none true n q = refl
 counted_none false n q = refl
 
@@ -392,11 +391,11 @@ counted-more n v p broken = refl
 counted-more n v p (series [] joined e) = refl
 counted-more n v p (series (u ∷ us) joined e) = refl
 
-pub points-counted : (f : ℕ) (s : List ℕ) (n q : ℕ) (x : Num) → points_more f s n q x ≡ counted n (more_at unicode_at f s q x)
+pub points-counted : (f : ℕ) (s : List ℕ) (n q : ℕ) (x : Option (ℕ × ℕ)) → points_more f s n q x ≡ counted n (more_at unicode_at f s q x)
 unfolding points_more more_at
-points-counted zero s n q Bad = counted_none (plus_at s q) n q
-points-counted zero s n q (Val v e) = refl
-points-counted (suc f) s n q Bad = counted_none (plus_at s q) n q
-points-counted (suc f) s n q (Val v e) =
-    let x : Num = unicode_at s (join_at s e) in
+points-counted zero s n q None = counted_none (plus_at s q) n q
+points-counted zero s n q (Some (v, e)) = refl
+points-counted (suc f) s n q None = counted_none (plus_at s q) n q
+points-counted (suc f) s n q (Some (v, e)) =
+    let x : (Option (ℕ × ℕ)) = unicode_at s (join_at s e) in
     points-counted f s 1 e x ∙ counted-more n v (plus_at s q) (more_at unicode_at f s e x)

@@ -1,6 +1,10 @@
 -- A text of the grammar is read as the table that it writes, and what is read so is a text of the grammar. So: accepted exactly when.
 -- text-reads      a text of the grammar is read as its table              text-written       and what is read is such a text
 -- one_table       one text writes one table                               accepted-exactly   a text of the grammar that keeps the rules
+use Rattle.table.specs.Header.{ReadValue}
+use Rattle.std.specs.Prelude.{Some, None}
+use Rattle.table.specs.Header.{ReadLine}
+use Rattle.std.specs.Prelude.{Ok, Err}
 use Prim.Native.Nat.{ℕ, ◌+◌, ◌-◌, ◌≤◌}
 use mathlib.Core.Path.{◌≡◌, refl, sym, ap, ◌∙◌, subst}
 use mathlib.Core.Logic.{inl, inr, ◌↔◌}
@@ -21,17 +25,14 @@ use Rattle.table.specs.Text.{lines_of}
 use Rattle.table.specs.Row.{row_of}
 use Rattle.table.specs.Header.{key_of, value_of, header_line_of}
 use Rattle.table.specs.Mapping.{BodyLine, no_form, reserved, blank, ending, mapping, body_line_of, after_end_of}
-use Rattle.table.specs.Numbers.{in_form, n13, rows_at, key_conditions, charmap_conditions, mapping_conditions}
+use Rattle.table.specs.Numbers.{in_form, n13, rows_at, key_conditions, charmap_conditions, mapping_conditions, Verdict}
 use Rattle.table.specs.Load.{Reading, goes_on, stop, judged, reading, keep_value, keep_row, line_as, header_asks, mapping_asks, last_asks, judged_by, line_step, table_of, accepted, outcome_at, load_go, start, load_of, load_in_form}
 use Rattle.table.specs.Grammar.{Lines, BlankLine, CharmapLine, EndLine, MappingLine, Pair, KeyLine, values_of, RowsAre, HeaderSays, Listed, TableText}
 use Rattle.table.specs.declared.value.Key.{Key}
-use Rattle.table.specs.declared.value.Value.{Value}
 use Rattle.table.specs.Keys.{Keys, no_keys}
 use Rattle.table.specs.declared.header.HeaderLine.TheVariants as header
 use Rattle.table.specs.declared.load.Refusal.{Refusal}
 use Rattle.table.specs.declared.load.Refusal.TheVariants as refusal
-use Rattle.table.specs.declared.load.Verdict.{Verdict}
-use Rattle.table.specs.declared.load.Verdict.TheVariants.{Fine, Refuse}
 use Rattle.table.specs.declared.load.Phase.TheVariants.{Header, Mappings, Ended}
 use Rattle.table.proofs.LowestLaws.{lowest-fine, none-in-form}
 use Rattle.table.proofs.Judged.{table_with}
@@ -43,7 +44,6 @@ use Rattle.table.proofs.MappingRead.{mapping-line-reads}
 use Rattle.table.proofs.FormsRead.{FormMeans, form-written, blank-body, end_body, LastMeans, last_written, blank-last}
 use Rattle.table.proofs.KeysHeld.{Slot, HeaderKept, KeyMeans, key-means, key-passes}
 use Rattle.table.proofs.HeaderText.{Ordered, in_order_lem, header-said, Asked, key-asked, nothing-absent, says-one}
-use Rattle.table.specs.declared.header.HeaderLine.{HeaderLine}
 
 -- ## What is read is a text of the grammar
 
@@ -67,7 +67,7 @@ last-go lim t (l ∷ ls) k h rows ms e = by_form (after_end_of l) (last_written 
     by_form (mapping u c d) m ih x = absurd m
 
 -- the conditions of a mapping line are all rules
-mapping-fine : (lim : Limits) (h : Keys) (rows : List (List Cell)) (ms : List Line) (l : Line) → in_form (mapping_conditions lim h rows ms l) ≡ Fine
+mapping-fine : (lim : Limits) (h : Keys) (rows : List (List Cell)) (ms : List Line) (l : Line) → in_form (mapping_conditions lim h rows ms l) ≡ Ok tt
 unfolding in_form mapping_conditions
 mapping-fine lim h rows ms l = refl
 
@@ -118,11 +118,11 @@ HeaderRest ls ps t =
     × (ls ≡ header ++ tail) × Listed KeyLine pairs header × Charmapped tail t × HeaderSays (reverse_aux ps pairs) t
 
 -- the line CHARMAP
-charmap-fine : (h : Keys) (rows : List (List Cell)) → in_form (charmap_conditions h rows) ≡ Fine → n13 h (length rows) ≡ false
+charmap-fine : (h : Keys) (rows : List (List Cell)) → in_form (charmap_conditions h rows) ≡ Ok tt → n13 h (length rows) ≡ false
 unfolding in_form charmap_conditions
 charmap-fine h rows e = by-absent (n13 h (length rows)) refl e
   where
-    by-absent : (x : Bool) → n13 h (length rows) ≡ x → pick x (Refuse refusal.KeyAbsent) Fine ≡ Fine → n13 h (length rows) ≡ false
+    by-absent : (x : Bool) → n13 h (length rows) ≡ x → ◌≡◌ {A = Verdict} (pick x (Err refusal.KeyAbsent) (Ok tt)) (Ok tt) → n13 h (length rows) ≡ false
     by-absent false n f = n
     by-absent true n f = absurd (let z : ◌≡◌ {A = ℕ} 0 1 = cc in omega arith)
 
@@ -141,15 +141,15 @@ charmap-before l ls ps t h rows held n c (body, tail, news, are, each, end, tabl
     )
 
 -- a header line of the grammar gives its key one value more
-known-held : (lim : Limits) (h : Keys) (rows : List (List Cell)) (ps : List Pair) (k : Key) (v : Value) (w : List ℕ) (p : Pair) → HeaderKept h rows ps
-    → in_form (key_conditions lim h (length rows) k v) ≡ Fine → k ≡ key_of p.key → v ≡ value_of k p.value → w ≡ p.value → HeaderKept (keep_value h v) (keep_row v w rows) (p ∷ ps)
+known-held : (lim : Limits) (h : Keys) (rows : List (List Cell)) (ps : List Pair) (k : Key) (v : ReadValue) (w : List ℕ) (p : Pair) → HeaderKept h rows ps
+    → in_form (key_conditions lim h (length rows) k v) ≡ Ok tt → k ≡ key_of p.key → v ≡ value_of k p.value → w ≡ p.value → HeaderKept (keep_value h v) (keep_row v w rows) (p ∷ ps)
 unfolding key_conditions
 known-held lim h rows ps k v w p held fine key value part =
-    let f : in_form (key_conditions lim h (length rows) k (value_of k p.value)) ≡ Fine = sym (ap (λ (x : Value). in_form (key_conditions lim h (length rows) k x)) value) ∙ fine in
+    let f : in_form (key_conditions lim h (length rows) k (value_of k p.value)) ≡ Ok tt = sym (ap (λ (x : ReadValue). in_form (key_conditions lim h (length rows) k x)) value) ∙ fine in
     let n = lowest-fine (key_conditions lim h (length rows) k (value_of k p.value)) (sym (key-form lim h (length rows) k (value_of k p.value)) ∙ f) in
     let m = subst (KeyMeans p.key) (sym key) (key-means p.key) in
     let g = key-passes lim h rows ps p.value held p.key k m n.0 n.1.0 n.1.1.0 n.1.1.1.0 in
-    subst (λ (x : Value). HeaderKept (keep_value h x) (keep_row x w rows) (p ∷ ps)) (sym value)
+    subst (λ (x : ReadValue). HeaderKept (keep_value h x) (keep_row x w rows) (p ∷ ps)) (sym value)
     (subst (λ (x : List ℕ). HeaderKept (keep_value h (value_of k p.value)) (keep_row (value_of k p.value) x rows) (p ∷ ps)) (sym part) g)
 
 header-go : (lim : Limits) (t : Table) (ls : List (List ℕ)) (k : ℕ) (h : Keys) (rows : List (List Cell)) (ps : List Pair) → HeaderKept h rows ps
@@ -161,26 +161,26 @@ header-go lim t (l ∷ ls) k h rows ps held e = by-line (header_line_of l) (line
     longer : (x y : List (List ℕ)) → ls ≡ x ++ y → l ∷ ls ≡ l ∷ (x ++ y)
     longer x y are = ap (λ (z : List (List ℕ)). l ∷ z) are
 
-    by-line : (x : HeaderLine) → LineMeans l x
+    by-line : (x : ReadLine) → LineMeans l x
         → ((g : Keys) (rs : List (List Cell)) (qs : List Pair) → HeaderKept g rs qs → load_go in_form lim (k + 1) ls (goes_on (reading Header g rs [])) ≡ accepted t → HeaderRest ls qs t)
         → load_go in_form lim (k + 1) ls (judged_by in_form (header_asks lim h rows l x)) ≡ accepted t → HeaderRest (l ∷ ls) ps t
-    by-line header.NoForm m ih x = stopped lim (k + 1) ls _ t x
-    by-line header.Blank m ih x = let (pairs, header, tail, are, keys, rest, y) = ih h rows ps held x in (pairs, l ∷ header, tail, longer header tail are, inl (m, keys), rest, y)
-    by-line header.Charmap m ih x = by-verdict (in_form (charmap_conditions h rows)) refl x
+    by-line None m ih x = stopped lim (k + 1) ls _ t x
+    by-line (Some header.Blank) m ih x = let (pairs, header, tail, are, keys, rest, y) = ih h rows ps held x in (pairs, l ∷ header, tail, longer header tail are, inl (m, keys), rest, y)
+    by-line (Some header.Charmap) m ih x = by-verdict (in_form (charmap_conditions h rows)) refl x
       where
         by-verdict : (v : Verdict) → in_form (charmap_conditions h rows) ≡ v
             → load_go in_form lim (k + 1) ls (judged v (reading Mappings h (rows_at h rows) [])) ≡ accepted t → HeaderRest (l ∷ ls) ps t
-        by-verdict Fine f y = charmap-before l ls ps t h rows held (charmap-fine h rows f) m (body-go lim t ls (k + 1) h (rows_at h rows) [] y)
-        by-verdict (Refuse r) f y = stopped lim (k + 1) ls r t y
-    by-line (header.Known i v q z) (p, line, key, value, part) ih x = by-verdict (in_form (key_conditions lim h (length rows) i v)) refl x
+        by-verdict (Ok tt) f y = charmap-before l ls ps t h rows held (charmap-fine h rows f) m (body-go lim t ls (k + 1) h (rows_at h rows) [] y)
+        by-verdict (Err r) f y = stopped lim (k + 1) ls r t y
+    by-line (Some (header.Known i v q z)) (p, line, key, value, part) ih x = by-verdict (in_form (key_conditions lim h (length rows) i v)) refl x
       where
         by-verdict : (y : Verdict) → in_form (key_conditions lim h (length rows) i v) ≡ y
             → load_go in_form lim (k + 1) ls (judged y (reading Header (keep_value h v) (keep_row v (take (z - q) (drop q l)) rows) [])) ≡ accepted t → HeaderRest (l ∷ ls) ps t
-        by-verdict Fine f y =
+        by-verdict (Ok tt) f y =
             let g = known-held lim h rows ps i v (take (z - q) (drop q l)) p held f key value part in
             let (pairs, header, tail, are, keys, rest, says) = ih (keep_value h v) (keep_row v (take (z - q) (drop q l)) rows) (p ∷ ps) g y in
             (p ∷ pairs, l ∷ header, tail, longer header tail are, inr (p, pairs, refl, line, keys), rest, says)
-        by-verdict (Refuse r) f y = stopped lim (k + 1) ls r t y
+        by-verdict (Err r) f y = stopped lim (k + 1) ls r t y
 
 -- before the first line
 start-held : HeaderKept no_keys [] []
@@ -241,17 +241,17 @@ module _ (lim : Limits) (h : Keys) (rows : List (List Cell)) where
 
   blank-headed : (l : List ℕ) → BlankLine l → line_step in_form lim (reading Header h rows []) l ≡ goes_on (reading Header h rows [])
   unfolding in_form
-  blank-headed l b = ap (λ (x : HeaderLine). judged_by in_form (header_asks lim h rows l x)) (blank-line-reads l b)
+  blank-headed l b = ap (λ (x : ReadLine). judged_by in_form (header_asks lim h rows l x)) (blank-line-reads l b)
 
-  charmap-headed : (l : List ℕ) → CharmapLine l → in_form (charmap_conditions h rows) ≡ Fine
+  charmap-headed : (l : List ℕ) → CharmapLine l → in_form (charmap_conditions h rows) ≡ Ok tt
       → line_step in_form lim (reading Header h rows []) l ≡ goes_on (reading Mappings h (rows_at h rows) [])
   charmap-headed l c f =
-      ap (λ (x : HeaderLine). judged_by in_form (header_asks lim h rows l x)) (charmap-line-reads l c) ∙ ap (λ (v : Verdict). judged v (reading Mappings h (rows_at h rows) [])) f
+      ap (λ (x : ReadLine). judged_by in_form (header_asks lim h rows l x)) (charmap-line-reads l c) ∙ ap (λ (v : Verdict). judged v (reading Mappings h (rows_at h rows) [])) f
 
-  key-headed : (l : List ℕ) (k : Key) (v : Value) (q e : ℕ) → header_line_of l ≡ header.Known k v q e → in_form (key_conditions lim h (length rows) k v) ≡ Fine
+  key-headed : (l : List ℕ) (k : Key) (v : ReadValue) (q e : ℕ) → header_line_of l ≡ Some (header.Known k v q e) → in_form (key_conditions lim h (length rows) k v) ≡ Ok tt
       → line_step in_form lim (reading Header h rows []) l ≡ goes_on (reading Header (keep_value h v) (keep_row v (take (e - q) (drop q l)) rows) [])
   key-headed l k v q e Line-read f =
-      ap (λ (x : HeaderLine). judged_by in_form (header_asks lim h rows l x)) Line-read ∙ ap (λ (x : Verdict). judged x (reading Header (keep_value h v) (keep_row v (take (e - q) (drop q l)) rows) [])) f
+      ap (λ (x : ReadLine). judged_by in_form (header_asks lim h rows l x)) Line-read ∙ ap (λ (x : Verdict). judged x (reading Header (keep_value h v) (keep_row v (take (e - q) (drop q l)) rows) [])) f
 
   -- blank lines behind END CHARMAP
   last-lines : (ls : List (List ℕ)) (k : ℕ) (ms : List Line) → All BlankLine ls → load_go in_form lim k ls (goes_on (reading Ended h rows ms)) ≡ accepted (table_with h rows ms)
@@ -272,11 +272,11 @@ module _ (lim : Limits) (h : Keys) (rows : List (List Cell)) where
       ∙ body-lines end rest e b body (k + 1) more (n ∷ ms) l ∙ ap (λ (x : List Line). accepted (table_with h rows (reverse_aux x ms))) (sym are)
 
 -- the conditions of a line that passes
-key-fine : (lim : Limits) (h : Keys) (n : ℕ) (k : Key) (v : Value) → Asked lim h n k v → in_form (key_conditions lim h n k v) ≡ Fine
+key-fine : (lim : Limits) (h : Keys) (n : ℕ) (k : Key) (v : ReadValue) → Asked lim h n k v → in_form (key_conditions lim h n k v) ≡ Ok tt
 unfolding key_conditions
 key-fine lim h n k v a = none-in-form (key_conditions lim h n k v) (a.again, (a.fit, (a.built, (a.ranged, tt))))
 
-charmap-passes : (h : Keys) (rows : List (List Cell)) → n13 h (length rows) ≡ false → in_form (charmap_conditions h rows) ≡ Fine
+charmap-passes : (h : Keys) (rows : List (List Cell)) → n13 h (length rows) ≡ false → in_form (charmap_conditions h rows) ≡ Ok tt
 unfolding in_form charmap_conditions
 charmap-passes h rows n = rw n
 
@@ -305,7 +305,7 @@ module _ (lim : Limits) (t : Table) (charmap : List ℕ) (body : List (List ℕ)
   header-lines (s ∷ header) k h rows ps qs held (inr (p, more, are, x, l)) y room =
       let Line-read = key-line-reads p s x in
       let i : Key = key_of p.key in
-      let v : Value = value_of i p.value in
+      let v : ReadValue = value_of i p.value in
       let w : List ℕ = take (Line-read.to - Line-read.from) (drop Line-read.from s) in
       let y2 : (z : HeaderSays (reverse_aux ps (p ∷ more)) t) × (length z.entries ≤ lim.rows)
       = subst (λ (x : List Pair). (z : HeaderSays (reverse_aux ps x) t) × (length z.entries ≤ lim.rows)) are (y, room) in

@@ -1,6 +1,9 @@
 -- Values of the known keys but icu:state: a value of the grammar is read as what it is, and what is read is such a value, or unfit.
 -- name-reads, name-cases; class-reads, class_cases; min-reads, min_cases; max-reads, max_cases; sub-reads, sub_cases; sub1-reads, sub1-cases
 -- BytesValue⇒AllByte    the values of `\xhh` are bytes
+use Rattle.table.specs.Codes.{code_of}
+use Rattle.table.specs.Header.{ReadValue}
+use Rattle.std.specs.Prelude.{Option, Some, None}
 use Prim.Native.Nat.{ℕ, ◌+◌, ◌-◌, ◌/◌, ◌<◌, ◌≤◌}
 use mathlib.Core.Path.{◌≡◌, refl, sym, ap, ◌∙◌, subst}
 use mathlib.Core.Logic.{◌⊎◌, inl, inr}
@@ -23,11 +26,8 @@ use Rattle.table.proofs.Tokens.{Solid, strip, first, drop⇒byte_of, at_byte, Bl
 use Rattle.table.proofs.SeriesRead.{bytes_read, RunOf, bytes-written}
 use Rattle.lists.specs.Strings.{same}
 use Rattle.lists.proofs.Parts.{drop-+, +-suc-right, take-drop-++, drop-suc-++}
-use Rattle.table.specs.declared.value.Quoted as read
-use Rattle.table.specs.declared.value.Quoted.TheVariants.{Inside, Unquoted}
 use Rattle.table.specs.declared.value.Key.TheVariants.{CodeSetName, CurMin, CurMax, ConvClass, SubChar, SubChar1}
-use Rattle.table.specs.declared.value.Value.{Value}
-use Rattle.table.specs.declared.value.Value.TheVariants.{Unfit, Name, Min, Max, Sub, Sub1}
+use Rattle.table.specs.declared.value.Value.TheVariants.{Name, Min, Max, Sub, Sub1}
 
 -- ## Quotes
 
@@ -40,7 +40,7 @@ quote-end at [] r a f = rw (add-zero at) (f at)
 quote-end at (b ∷ w) r a f = rw (ne_eqb b 34 a.0, +-suc-right at (length w)) (quote-end (at + 1) w r a.1 f)
 
 quoted-at : (v : List ℕ) (p z : ℕ) → p ≡ skip_at v 0 → byte_of v p ≡ 34 → quote_end (p + 1) (drop (p + 1) v) ≡ z → length v ≤ skip_at v (z + 1)
-    → quoted_of v ≡ Inside (p + 1) z
+    → quoted_of v ≡ Some (p + 1, z)
 unfolding quoted_of quoted_from
 quoted-at v p z k b e h = rw (← k, b, e, le-leb (length v) (skip_at v (z + 1)) h)
 
@@ -50,7 +50,7 @@ record Quote (w v : List ℕ) (from to : ℕ) : Type 0 where
   part : take (to - from) (drop from v) ≡ w
 
 quote-made : (w v r : List ℕ) → drop (skip_at v 0) v ≡ 34 ∷ (w ++ r) → NoQuote w → ((n : ℕ) → quote_end n r ≡ n) → Blanks (drop 1 r)
-    → (from : ℕ) × (to : ℕ) × (quoted_of v ≡ Inside from to) × Quote w v from to
+    → (from : ℕ) × (to : ℕ) × (quoted_of v ≡ Some (from, to)) × Quote w v from to
 quote-made w v r h a f b =
     let p : ℕ = skip_at v 0 in
     let z : ℕ = p + 1 + length w in
@@ -62,7 +62,7 @@ quote-made w v r h a f b =
       record { size = refl; part = take-drop-++ v (p + 1) z w r j refl },
     )
 
-quoted-reads : (w v : List ℕ) → Quoted w v → (from : ℕ) × (to : ℕ) × (quoted_of v ≡ Inside from to) × Quote w v from to
+quoted-reads : (w v : List ℕ) → Quoted w v → (from : ℕ) × (to : ℕ) × (quoted_of v ≡ Some (from, to)) × Quote w v from to
 unfolding quote_end
 quoted-reads w v (a, inl (m, k, b)) =
     quote-made w v (34 ∷ m)
@@ -85,13 +85,13 @@ quote-found at (b ∷ l) =
     (λ e. ([], b ∷ l, tt, refl, omega arith, inr (l, ap (λ (x : ℕ). x ∷ l) (eqb-true b 34 e))))
     (λ n. quote-more at b l (quote_end (at + 1) l) (eqb-false b 34 n) (quote-found (at + 1) l))
 
-abbrev QuotedOf : List ℕ → read.Quoted → Type 0
-QuotedOf v Unquoted = Unit {0}
-QuotedOf v (Inside from to) = (w : List ℕ) × Quoted w v × Quote w v from to
+abbrev QuotedOf : List ℕ → Option (ℕ × ℕ) → Type 0
+QuotedOf v None = Unit {0}
+QuotedOf v (Some (from, to)) = (w : List ℕ) × Quoted w v × Quote w v from to
 
 -- at: the place behind the first quote
 module _ (v : List ℕ) (at : ℕ) (opens : drop (skip_at v 0) v ≡ 34 ∷ drop at v) where
-  quote-taken : (e : ℕ) → UpToQuote at (drop at v) e → length v ≤ skip_at v (e + 1) → QuotedOf v (Inside at e)
+  quote-taken : (e : ℕ) → UpToQuote at (drop at v) e → length v ≤ skip_at v (e + 1) → QuotedOf v (Some (at, e))
   quote-taken e (w, r, a, i, k, c) left = (w, (a, by_end c), record { size = k; part = take-drop-++ v at e w r i k })
     where
       front : drop (skip_at v 0) v ≡ 34 ∷ (w ++ r)
@@ -117,38 +117,38 @@ module _ (v : List ℕ) (at : ℕ) (opens : drop (skip_at v 0) v ≡ 34 ∷ drop
   unfolding quoted_from
   quoted-from =
       let e : ℕ = quote_end at (drop at v) in
-      pick-case (λ (x : read.Quoted). QuotedOf v x) (leb (length v) (skip_at v (e + 1))) (Inside at e) Unquoted
+      pick-case (λ (x : Option (ℕ × ℕ)). QuotedOf v x) (leb (length v) (skip_at v (e + 1))) (Some (at, e)) None
       (λ h. quote-taken e (quote-found at (drop at v)) (leb-true (length v) (skip_at v (e + 1)) h)) (λ _. tt)
 
 quoted-written : (v : List ℕ) → QuotedOf v (quoted_of v)
 unfolding quoted_of
 quoted-written v =
     let p : ℕ = skip_at v 0 in
-    pick-case (λ (x : read.Quoted). QuotedOf v x) (eqb (byte_of v p) 34) (quoted_from v (p + 1) (quote_end (p + 1) (drop (p + 1) v))) Unquoted
+    pick-case (λ (x : Option (ℕ × ℕ)). QuotedOf v x) (eqb (byte_of v p) 34) (quoted_from v (p + 1) (quote_end (p + 1) (drop (p + 1) v))) None
     (λ b. quoted-from v (p + 1) (at_byte v p (p + 1) 34 refl (eqb-true (byte_of v p) 34 b) (λ x. omega arith))) (λ _. tt)
 
 -- code_set_name
-name_of : (from to : ℕ) → (from ≡ to → ⊥) → name_in (Inside from to) ≡ Name
+name_of : (from to : ℕ) → (from ≡ to → ⊥) → name_in (Some (from, to)) ≡ Some Name
 unfolding name_in
 name_of from to n = rw (ne_eqb from to n)
 
-pub name-reads : (v : List ℕ) → NameValue v → value_of CodeSetName v ≡ Name
+pub name-reads : (v : List ℕ) → NameValue v → value_of CodeSetName v ≡ Some Name
 unfolding value_of
 name-reads v (w, some, q) = let r = quoted-reads w v q in ap name_in r.2 ∙ name_of r.0 r.1 (λ e. omega (arith, r.3.size))
 
-name_by : (v : List ℕ) (x : read.Quoted) → QuotedOf v x → (name_in x ≡ Unfit) ⊎ ((name_in x ≡ Name) × NameValue v)
+name_by : (v : List ℕ) (x : Option (ℕ × ℕ)) → QuotedOf v x → (name_in x ≡ None) ⊎ ((name_in x ≡ Some Name) × NameValue v)
 unfolding name_in
-name_by v Unquoted h = inl refl
-name_by v (Inside from to) (w, q, r) =
-    pick-case (λ (y : Value). (y ≡ Unfit) ⊎ ((y ≡ Name) × NameValue v)) (eqb from to) Unfit Name (λ _. inl refl)
+name_by v None h = inl refl
+name_by v (Some (from, to)) (w, q, r) =
+    pick-case (λ (y : ReadValue). (y ≡ None) ⊎ ((y ≡ Some Name) × NameValue v)) (eqb from to) None (Some Name) (λ _. inl refl)
     (λ n. let k = eqb-false from to n in inr (refl, (w, omega (arith, r.size), q)))
 
-pub name-cases : (v : List ℕ) → (value_of CodeSetName v ≡ Unfit) ⊎ ((value_of CodeSetName v ≡ Name) × NameValue v)
+pub name-cases : (v : List ℕ) → (value_of CodeSetName v ≡ None) ⊎ ((value_of CodeSetName v ≡ Some Name) × NameValue v)
 unfolding value_of
 name-cases v = name_by v (quoted_of v) (quoted-written v)
 
 -- uconv_class
-class_of : (w v : List ℕ) (from to : ℕ) → Quote w v from to → class_in v (Inside from to) ≡ class_name w
+class_of : (w v : List ℕ) (from to : ℕ) → Quote w v from to → class_in v (Some (from, to)) ≡ class_name w
 unfolding class_in
 class_of w v from to r = ap class_name r.part
 
@@ -159,7 +159,7 @@ class-reads w v q = let r = quoted-reads w v q in ap (class_in v) r.2 ∙ class_
 abbrev IsClass : List ℕ → Type 0
 IsClass w = In w classes
 
-class-named : (w : List ℕ) → (class_name w ≡ Unfit) ⊎ IsClass w
+class-named : (w : List ℕ) → (class_name w ≡ None) ⊎ IsClass w
 unfolding class_name
 class-named w =
     pick-case P (same w (ascii "SBCS")) _ _ (λ e. inr (inl (same⇒≡ w (ascii "SBCS") e)))
@@ -168,23 +168,23 @@ class-named w =
     (λ _. pick-case P (same w (ascii "EBCDIC_STATEFUL")) _ _
     (λ e. inr (inr (inr (inr (inl (same⇒≡ w (ascii "EBCDIC_STATEFUL") e)))))) (λ _. inl refl))))
   where
-    P : Value → Type 0
-    P x = (x ≡ Unfit) ⊎ IsClass w
+    P : ReadValue → Type 0
+    P x = (x ≡ None) ⊎ IsClass w
 
-class-by : (v : List ℕ) (x : read.Quoted) → QuotedOf v x
-    → (class_in v x ≡ Unfit) ⊎ ((w : List ℕ) × Quoted w v × (class_in v x ≡ class_name w) × IsClass w)
+class-by : (v : List ℕ) (x : Option (ℕ × ℕ)) → QuotedOf v x
+    → (class_in v x ≡ None) ⊎ ((w : List ℕ) × Quoted w v × (class_in v x ≡ class_name w) × IsClass w)
 unfolding class_in
-class-by v Unquoted h = inl refl
-class-by v (Inside from to) (w, q, r) = by_name (class-named w)
+class-by v None h = inl refl
+class-by v (Some (from, to)) (w, q, r) = by_name (class-named w)
   where
-    by_name : (class_name w ≡ Unfit) ⊎ IsClass w
-        → (class_in v (Inside from to) ≡ Unfit) ⊎ ((x : List ℕ) × Quoted x v × (class_in v (Inside from to) ≡ class_name x) × IsClass x)
+    by_name : (class_name w ≡ None) ⊎ IsClass w
+        → (class_in v (Some (from, to)) ≡ None) ⊎ ((x : List ℕ) × Quoted x v × (class_in v (Some (from, to)) ≡ class_name x) × IsClass x)
     by_name (inl u) = inl (class_of w v from to r ∙ u)
     by_name (inr i) = inr (w, q, class_of w v from to r, i)
 
 abbrev pub ClassCase : List ℕ → Type 0
 ClassCase v =
-    (value_of ConvClass v ≡ Unfit)
+    (value_of ConvClass v ≡ None)
     ⊎ ((w : List ℕ) × Quoted w v × (value_of ConvClass v ≡ class_name w)
     × In w classes)
 
@@ -228,38 +228,38 @@ module _ (v : List ℕ) where
       P d = (d ≡ 0) ⊎ SizeValue d v
 
   -- a value made of the digit, unfit for 0
-  size-cases : (f g : ℕ → Value) → f 0 ≡ Unfit → ((d : ℕ) → 1 ≤ d → f d ≡ g d)
-      → (f (digit_in v at) ≡ Unfit) ⊎ ((d : ℕ) × (f (digit_in v at) ≡ g d) × SizeValue d v)
+  size-cases : (f g : ℕ → ReadValue) → f 0 ≡ None → ((d : ℕ) → 1 ≤ d → f d ≡ g d)
+      → (f (digit_in v at) ≡ None) ⊎ ((d : ℕ) × (f (digit_in v at) ≡ g d) × SizeValue d v)
   size-cases f g z more = by-digit digit-cases
     where
       by-digit : (digit_in v at ≡ 0) ⊎ SizeValue (digit_in v at) v
-          → (f (digit_in v at) ≡ Unfit) ⊎ ((d : ℕ) × (f (digit_in v at) ≡ g d) × SizeValue d v)
+          → (f (digit_in v at) ≡ None) ⊎ ((d : ℕ) × (f (digit_in v at) ≡ g d) × SizeValue d v)
       by-digit (inl e) = inl (ap f e ∙ z)
       by-digit (inr s) = inr (digit_in v at, more (digit_in v at) s.0, s)
 
-min-of : (d : ℕ) → 1 ≤ d → min_in d ≡ Min d
+min-of : (d : ℕ) → 1 ≤ d → min_in d ≡ Some (Min d)
 unfolding min_in
 min-of d h = rw (ne_eqb d 0 (λ e. omega arith))
 
-pub min-reads : (d : ℕ) (v : List ℕ) → SizeValue d v → value_of CurMin v ≡ Min d
+pub min-reads : (d : ℕ) (v : List ℕ) → SizeValue d v → value_of CurMin v ≡ Some (Min d)
 unfolding value_of
 min-reads d v s = ap min_in (digit-reads v d s) ∙ min-of d s.0
 
-pub min_cases : (v : List ℕ) → (value_of CurMin v ≡ Unfit) ⊎ ((d : ℕ) × (value_of CurMin v ≡ Min d) × SizeValue d v)
+pub min_cases : (v : List ℕ) → (value_of CurMin v ≡ None) ⊎ ((d : ℕ) × (value_of CurMin v ≡ Some (Min d)) × SizeValue d v)
 unfolding value_of min_in
-min_cases v = size-cases v min_in Min refl min-of
+min_cases v = size-cases v min_in (λ d. Some (Min d)) refl min-of
 
-max_of : (d : ℕ) → 1 ≤ d → max_in d ≡ Max d
+max_of : (d : ℕ) → 1 ≤ d → max_in d ≡ Some (Max d)
 unfolding max_in
 max_of d h = rw (ne_eqb d 0 (λ e. omega arith))
 
-pub max-reads : (d : ℕ) (v : List ℕ) → SizeValue d v → value_of CurMax v ≡ Max d
+pub max-reads : (d : ℕ) (v : List ℕ) → SizeValue d v → value_of CurMax v ≡ Some (Max d)
 unfolding value_of
 max-reads d v s = ap max_in (digit-reads v d s) ∙ max_of d s.0
 
-pub max_cases : (v : List ℕ) → (value_of CurMax v ≡ Unfit) ⊎ ((d : ℕ) × (value_of CurMax v ≡ Max d) × SizeValue d v)
+pub max_cases : (v : List ℕ) → (value_of CurMax v ≡ None) ⊎ ((d : ℕ) × (value_of CurMax v ≡ Some (Max d)) × SizeValue d v)
 unfolding value_of max_in
-max_cases v = size-cases v max_in Max refl max_of
+max_cases v = size-cases v max_in (λ d. Some (Max d)) refl max_of
 
 -- ## Bytes
 
@@ -273,16 +273,16 @@ run-reads c v (m, b, w) =
     other x = closed-first x (strip m) (closes-strip m (inl w))
 
 -- subchar
-sub_of : (v c : List ℕ) (e : ℕ) → length c ≤ 4 → length v ≤ skip_at v e → sub_in v (series c false e) ≡ Sub (packed c) (length c)
+sub_of : (v c : List ℕ) (e : ℕ) → length c ≤ 4 → length v ≤ skip_at v e → sub_in v (series c false e) ≡ Some (Sub (code_of c))
 unfolding sub_in
 sub_of v c e h k = rw (le-leb (length c) 4 h, le-leb (length v) (skip_at v e) k)
 
-pub sub-reads : (c v : List ℕ) → SubcharValue c v → value_of SubChar v ≡ Sub (packed c) (length c)
+pub sub-reads : (c v : List ℕ) → SubcharValue c v → value_of SubChar v ≡ Some (Sub (code_of c))
 unfolding value_of
 sub-reads c v (few, b) = let r = run-reads c v b in ap (sub_in v) r.1 ∙ sub_of v c r.0 few r.2
 
 sub_by : (v : List ℕ) (x : ByteSeries) → RunOf v 0 x
-    → (sub_in v x ≡ Unfit) ⊎ ((c : List ℕ) × (sub_in v x ≡ Sub (packed c) (length c)) × SubcharValue c v)
+    → (sub_in v x ≡ None) ⊎ ((c : List ℕ) × (sub_in v x ≡ Some (Sub (code_of c))) × SubcharValue c v)
 unfolding sub_in
 sub_by v broken h = inl refl
 sub_by v (series l true e) h = inl refl
@@ -292,11 +292,11 @@ sub_by v (series l false e) h =
     (λ b. inr (l, refl, (leb-true (length l) 4 a, (drop e v, h, skip_at⇒Blanks v e (leb-true (length v) (skip_at v e) b)))))
     (λ _. inl refl)) (λ _. inl refl)
   where
-    P : Value → Type 0
-    P x = (x ≡ Unfit) ⊎ ((c : List ℕ) × (x ≡ Sub (packed c) (length c)) × SubcharValue c v)
+    P : ReadValue → Type 0
+    P x = (x ≡ None) ⊎ ((c : List ℕ) × (x ≡ Some (Sub (code_of c))) × SubcharValue c v)
 
 pub sub_cases : (v : List ℕ)
-    → (value_of SubChar v ≡ Unfit) ⊎ ((c : List ℕ) × (value_of SubChar v ≡ Sub (packed c) (length c)) × SubcharValue c v)
+    → (value_of SubChar v ≡ None) ⊎ ((c : List ℕ) × (value_of SubChar v ≡ Some (Sub (code_of c))) × SubcharValue c v)
 unfolding value_of
 sub_cases v = sub_by v (bytes_at v 0) (bytes-written v 0)
 
@@ -305,25 +305,25 @@ packed-one : (b : ℕ) → packed (b ∷ []) / 16777216 ≡ b
 unfolding packed
 packed-one b = omega arith
 
-sub1-of : (v : List ℕ) (b e : ℕ) → length v ≤ skip_at v e → sub1_value v (series (b ∷ []) false e) ≡ Sub1 b
+sub1-of : (v : List ℕ) (b e : ℕ) → length v ≤ skip_at v e → sub1_value v (series (b ∷ []) false e) ≡ Some (Sub1 b)
 unfolding sub1_value
 sub1-of v b e k = rw (le-leb (length v) (skip_at v e) k, packed-one b)
 
-pub sub1-reads : (b : ℕ) (v : List ℕ) → BytesValue (b ∷ []) v → value_of SubChar1 v ≡ Sub1 b
+pub sub1-reads : (b : ℕ) (v : List ℕ) → BytesValue (b ∷ []) v → value_of SubChar1 v ≡ Some (Sub1 b)
 unfolding value_of
 sub1-reads b v t = let r = run-reads (b ∷ []) v t in ap (sub1_value v) r.1 ∙ sub1-of v b r.0 r.2
 
-sub1-by : (v : List ℕ) (x : ByteSeries) → RunOf v 0 x → (sub1_value v x ≡ Unfit) ⊎ ((b : ℕ) × (sub1_value v x ≡ Sub1 b) × BytesValue (b ∷ []) v)
+sub1-by : (v : List ℕ) (x : ByteSeries) → RunOf v 0 x → (sub1_value v x ≡ None) ⊎ ((b : ℕ) × (sub1_value v x ≡ Some (Sub1 b)) × BytesValue (b ∷ []) v)
 unfolding sub1_value
 sub1-by v broken h = inl refl
 sub1-by v (series l true e) h = inl refl
 sub1-by v (series [] false e) h = absurd h
 sub1-by v (series (b ∷ []) false e) h =
-    pick-case (λ (x : Value). (x ≡ Unfit) ⊎ ((y : ℕ) × (x ≡ Sub1 y) × BytesValue (y ∷ []) v)) (leb (length v) (skip_at v e)) _ _
-    (λ k. inr (b, ap Sub1 (packed-one b), (drop e v, h, skip_at⇒Blanks v e (leb-true (length v) (skip_at v e) k)))) (λ _. inl refl)
+    pick-case (λ (x : ReadValue). (x ≡ None) ⊎ ((y : ℕ) × (x ≡ Some (Sub1 y)) × BytesValue (y ∷ []) v)) (leb (length v) (skip_at v e)) _ _
+    (λ k. inr (b, ap (λ (x : ℕ). Some (Sub1 x)) (packed-one b), (drop e v, h, skip_at⇒Blanks v e (leb-true (length v) (skip_at v e) k)))) (λ _. inl refl)
 sub1-by v (series (b ∷ d ∷ l) false e) h = inl (rw (lt-leb (length (b ∷ d ∷ l)) 1 (omega arith)))
 
-pub sub1-cases : (v : List ℕ) → (value_of SubChar1 v ≡ Unfit) ⊎ ((b : ℕ) × (value_of SubChar1 v ≡ Sub1 b) × BytesValue (b ∷ []) v)
+pub sub1-cases : (v : List ℕ) → (value_of SubChar1 v ≡ None) ⊎ ((b : ℕ) × (value_of SubChar1 v ≡ Some (Sub1 b)) × BytesValue (b ∷ []) v)
 unfolding value_of
 sub1-cases v = sub1-by v (bytes_at v 0) (bytes-written v 0)
 

@@ -4,6 +4,7 @@ use Rattle.std.specs.Prelude.{if◌then◌else◌, ℕ, ◌+◌, ◌-◌, Bool, 
 use Rattle.lists.specs.Pick.{◌or◌}
 use Rattle.table.specs.declared.states.Step.{Step}
 use Rattle.table.specs.declared.states.Step.TheVariants.{Illegal, Ends, Leads}
+use Rattle.table.specs.declared.states.EndKind.TheVariants.{Assigned, AnyPoint, Unassigned}
 
 -- illegal; ends the code: assigned up to U+FFFF, any code point (`p`), legal but unassigned (`u`); leads on to row n
 pub data Cell : Type 0 where
@@ -13,12 +14,12 @@ pub data Cell : Type 0 where
   ends_unassigned : Cell
   leads : ℕ → Cell
 
--- the step of a reader of codes: how a code ends is 1, 2 or 3, in this order
+-- the step of a reader of codes
 abbrev pub cell_step : Cell → Step
 cell_step illegal = Illegal
-cell_step ends = Ends 1
-cell_step ends_any = Ends 2
-cell_step ends_unassigned = Ends 3
+cell_step ends = Ends Assigned
+cell_step ends_any = Ends AnyPoint
+cell_step ends_unassigned = Ends Unassigned
 cell_step (leads n) = Leads n
 
 -- the number of a cell in memory

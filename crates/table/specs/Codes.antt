@@ -1,13 +1,12 @@
 -- The complete codes in byte order, the code that comes next, and how many lie between two positions (document 01, 'The
 -- audit of codes'); and bytes as one number of 32 bits (`packed`).
 use Rattle.std.specs.Prelude.{ℕ, zero, suc, ◌+◌, ◌*◌, ◌/◌, ◌%◌, ◌<◌, List, [], ◌∷◌, ◌++◌, map, length}
+use Rattle.std.specs.Prelude.{Option, Some, None}
 use Rattle.lists.specs.Strings.{after, up_to}
 use Rattle.table.specs.States.{Rows, longest}
 use Rattle.table.specs.declared.states.Step.{Step}
 use Rattle.table.specs.declared.states.Step.TheVariants.{Illegal, Ends, Leads}
 use Rattle.table.specs.declared.states.Code.{Code}
-use Rattle.table.specs.declared.codes.Next.{Next}
-use Rattle.table.specs.declared.codes.Next.TheVariants.{Found, Nothing}
 
 -- the codes that begin with the byte b; sub n gives the rests of codes from row n on
 abbrev pub codes_on : (ℕ → List (List ℕ)) → ℕ → Step → List (List ℕ)
@@ -57,12 +56,12 @@ unpacked (suc n) v = v / first_byte_unit ∷ unpacked n (v % first_byte_unit * 2
 abbrev pub bytes_of : Code → List ℕ
 bytes_of c = unpacked c.len c.bits
 
-abbrev pub first_code : List (List ℕ) → Next
-first_code [] = Nothing
-first_code (s ∷ l) = Found (code_of s)
+abbrev pub first_code : List (List ℕ) → Option Code
+first_code [] = None
+first_code (s ∷ l) = Some (code_of s)
 
 -- the first complete code after p
-abbrev pub next_of : Rows → ℕ → List ℕ → Next
+abbrev pub next_of : Rows → ℕ → List ℕ → Option Code
 next_of step row p = first_code (after p (all_codes step row))
 
 -- every element is a byte

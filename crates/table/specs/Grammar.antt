@@ -18,7 +18,7 @@ use Rattle.lists.specs.Strings.{same}
 use Rattle.table.specs.Row.{meaning, row_of}
 use Rattle.table.specs.declared.load.Phase.{Phase}
 use Rattle.table.specs.declared.load.Phase.TheVariants.{Header, Mappings, Ended}
-use Rattle.table.specs.declared.row.Entry.{Entry}
+use Rattle.table.specs.Row.{Entry}
 use Rattle.table.specs.declared.value.Key.{Key}
 use Rattle.table.specs.declared.value.Key.TheVariants.{CodeSetName, CurMin, CurMax, ConvClass, SubChar}
 use Rattle.table.specs.declared.value.Key.TheVariants.{SubChar1, State, Base, Other}

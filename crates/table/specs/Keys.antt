@@ -1,4 +1,6 @@
 -- The keys of a header as they were read (document 01, 'Table text', Header): each one given, with its value, or not.
+use Rattle.table.specs.declared.value.Class.{Class as NamedClass}
+use Rattle.table.specs.declared.value.Class.TheVariants.{Sbcs, Mbcs}
 use Rattle.std.specs.Prelude.{if◌then◌else◌, ℕ, Bool, true, false, List, [], eqb}
 use Rattle.std.proofs.Math.Option.{Option, none, some}
 use Rattle.lists.specs.Options.{or_else}
@@ -7,6 +9,11 @@ use Rattle.lists.specs.Options.{or_else}
 pub data Class : Type 0 where
   sbcs : Class
   mbcs : Class
+
+-- the number of a class as a header names it
+abbrev pub number_of_class : NamedClass → ℕ
+number_of_class Sbcs = 1
+number_of_class Mbcs = 2
 
 -- by its number: 1 SBCS, 2 MBCS
 abbrev pub class_by : ℕ → Class

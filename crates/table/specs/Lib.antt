@@ -12,6 +12,7 @@ pub mod Keys
 pub mod Valid
 pub mod Forms
 pub mod Lookup
+pub mod Held
 pub mod Looks
 pub mod Text
 pub mod Row

@@ -3,12 +3,16 @@
 -- Contents: what was read so far; the keys with one more value; what a line asks (`line_asks`); line after line
 -- (`load_of`); what loading into lent slices gives (`given`), hands back (`loaded_by`) and leaves (`left_in`).
 -- Cases: proofs/TextCases.antt
-use Rattle.std.specs.Prelude.{if◌then◌else◌, ℕ, ◌+◌, ◌-◌, true, false, List, []}
+use Rattle.table.specs.Keys.{number_of_class}
+use Rattle.table.specs.Codes.{bytes_of}
+use Rattle.table.specs.Header.{ReadValue}
+use Rattle.std.specs.Prelude.{Some, None}
+use Rattle.table.specs.Header.{ReadLine}
+use Rattle.std.specs.Prelude.{if◌then◌else◌, ℕ, ◌+◌, ◌-◌, true, false, List, [], Ok, Err}
 use Rattle.std.specs.Prelude.{◌∷◌, ◌++◌, map, length, take, drop, replicate}
-use Rattle.std.proofs.Math.Option.{some}
+use Rattle.std.proofs.Math.Option.{Option, none, some}
 use Rattle.table.specs.Limits.{Limits, needed}
 use Rattle.table.specs.Cells.{Cell}
-use Rattle.table.specs.Codes.{unpacked}
 use Rattle.table.specs.Meaning.{Line, Table}
 use Rattle.table.specs.Stored.{bits_of, info_of}
 use Rattle.table.specs.Slices.{Slices}
@@ -19,22 +23,17 @@ use Rattle.table.specs.Text.{lines_of}
 use Rattle.table.specs.Row.{entries_of, row_of}
 use Rattle.table.specs.Header.{is_row, header_line_of}
 use Rattle.table.specs.Mapping.{BodyLine, no_form, reserved, blank, ending, mapping, body_line_of, after_end_of}
-use Rattle.table.specs.Numbers.{Cond, refusal_number, lowest, in_form, key_conditions, charmap_conditions}
+use Rattle.table.specs.Numbers.{Cond, Verdict, Loaded, refusal_number, lowest, in_form}
+use Rattle.table.specs.Numbers.{key_conditions, charmap_conditions}
 use Rattle.table.specs.Numbers.{mapping_conditions, rows_at, n1, n2, n27, form_conditions, behind_conditions}
 use Rattle.table.specs.Numbers.{end_conditions}
 use Rattle.table.specs.declared.valid.Record.{Record}
 use Rattle.table.specs.declared.header.HeaderLine.TheVariants as header
 use Rattle.table.specs.declared.load.Refusal.{Refusal}
 use Rattle.table.specs.declared.load.Refusal.TheVariants as refusal
-use Rattle.table.specs.declared.load.Verdict.{Verdict}
-use Rattle.table.specs.declared.load.Verdict.TheVariants.{Fine, Refuse}
 use Rattle.table.specs.declared.load.Phase.{Phase}
 use Rattle.table.specs.declared.load.Phase.TheVariants.{Header, Mappings, Ended}
-use Rattle.table.specs.declared.load.Answer.TheVariants.{Accepted, Refused}
-use Rattle.table.specs.declared.load.Loaded.{Loaded}
-use Rattle.table.specs.declared.header.HeaderLine.{HeaderLine}
-use Rattle.table.specs.declared.value.Value.{Value}
-use Rattle.table.specs.declared.value.Value.TheVariants.{Unfit, Any, Name, Min, Max, Class, Sub, Sub1, Row}
+use Rattle.table.specs.declared.value.Value.TheVariants.{Any, Name, Min, Max, Class, Sub, Sub1, Row}
 use Rattle.table.specs.declared.value.Value.TheVariants.{Unbuilt}
 
 -- what the lines so far have given; lines stand with the last one first
@@ -50,24 +49,24 @@ pub data LineStep : Type 0 where
   stop : Refusal → LineStep
 
 abbrev pub judged : Verdict → Reading → LineStep
-judged Fine r = goes_on r
-judged (Refuse x) r = stop x
+judged (Ok tt) r = goes_on r
+judged (Err x) r = stop x
 
 -- the keys with a line's value in them
-unfoldable pub keep_value : Keys → Value → Keys
-keep_value h Unfit = h
-keep_value h Any = h
-keep_value h Unbuilt = h
-keep_value h Name = keys true h.min h.max h.class h.subchar h.subchar1
-keep_value h (Min d) = keys h.name (some d) h.max h.class h.subchar h.subchar1
-keep_value h (Max d) = keys h.name h.min (some d) h.class h.subchar h.subchar1
-keep_value h (Class c) = keys h.name h.min h.max (some (class_by c)) h.subchar h.subchar1
-keep_value h (Sub b n) = keys h.name h.min h.max h.class (some (unpacked n b)) h.subchar1
-keep_value h (Sub1 b) = keys h.name h.min h.max h.class h.subchar (some b)
-keep_value h (Row w l o) = h
+unfoldable pub keep_value : Keys → ReadValue → Keys
+keep_value h None = h
+keep_value h (Some Any) = h
+keep_value h (Some Unbuilt) = h
+keep_value h (Some Name) = keys true h.min h.max h.class h.subchar h.subchar1
+keep_value h (Some (Min d)) = keys h.name (some d) h.max h.class h.subchar h.subchar1
+keep_value h (Some (Max d)) = keys h.name h.min (some d) h.class h.subchar h.subchar1
+keep_value h (Some (Class c)) = keys h.name h.min h.max (some (class_by (number_of_class c))) h.subchar h.subchar1
+keep_value h (Some (Sub c)) = keys h.name h.min h.max h.class (some (bytes_of c)) h.subchar1
+keep_value h (Some (Sub1 b)) = keys h.name h.min h.max h.class h.subchar (some b)
+keep_value h (Some (Row w l o)) = h
 
 -- the rows with a line's row added at the end; s is the value's text
-unfoldable pub keep_row : Value → List ℕ → List (List Cell) → List (List Cell)
+unfoldable pub keep_row : ReadValue → List ℕ → List (List Cell) → List (List Cell)
 keep_row v s rows = if is_row v then rows ++ (row_of (entries_of s) ∷ []) else rows
 
 abbrev pub reading : Phase → Keys → List (List Cell) → List Line → Reading
@@ -82,11 +81,12 @@ abbrev pub asks : List Cond → Reading → Asks
 asks cs r = record { conditions = cs; behind = r }
 
 -- a line before CHARMAP
-abbrev pub header_asks : Limits → Keys → List (List Cell) → List ℕ → HeaderLine → Asks
-header_asks lim h rows s header.NoForm = asks (form_conditions header.NoForm) (reading Header h rows [])
-header_asks lim h rows s header.Blank = asks (form_conditions header.Blank) (reading Header h rows [])
-header_asks lim h rows s header.Charmap = asks (charmap_conditions h rows) (reading Mappings h (rows_at h rows) [])
-header_asks lim h rows s (header.Known k v q e) =
+abbrev pub header_asks : Limits → Keys → List (List Cell) → List ℕ → ReadLine → Asks
+header_asks lim h rows s None = asks (form_conditions None) (reading Header h rows [])
+header_asks lim h rows s (Some header.Blank) = asks (form_conditions (Some header.Blank)) (reading Header h rows [])
+header_asks lim h rows s (Some header.Charmap) =
+    asks (charmap_conditions h rows) (reading Mappings h (rows_at h rows) [])
+header_asks lim h rows s (Some (header.Known k v q e)) =
     asks (key_conditions lim h (length rows) k v)
     (reading Header (keep_value h v) (keep_row v (take (e - q) (drop q s)) rows) [])
 
@@ -167,12 +167,26 @@ load_of lim text = load_go lowest lim 0 (lines_of text) (goes_on start)
 unfoldable pub load_in_form : Limits → List ℕ → Outcome
 load_in_form lim text = load_go in_form lim 0 (lines_of text) (goes_on start)
 
+abbrev pub loaded_as : Outcome → Loaded
+loaded_as (accepted t) = Ok (record_of t)
+loaded_as (refused x k) = Err (record { why = x; line = k })
+
+-- what is handed on beside the number: the refusal if there is one, the line that is refused, 0 where there is none,
+-- and the record, which is zeros for a refused text
+abbrev pub refusal_in : Loaded → Option Refusal
+refusal_in (Ok rec) = none
+refusal_in (Err e) = some e.why
+
+abbrev pub line_refused : Loaded → ℕ
+line_refused (Ok rec) = 0
+line_refused (Err e) = e.line
+
 abbrev pub zero_record : Record
 zero_record = record { rows = 0; mappings = 0; min = 0; max = 0; subchar = record { bits = 0; len = 0 }; subchar1 = 0 }
 
-abbrev pub loaded_as : Outcome → Loaded
-loaded_as (accepted t) = record { answer = Accepted; line = 0; table = record_of t }
-loaded_as (refused x k) = record { answer = Refused x; line = k; table = zero_record }
+abbrev pub record_handed : Loaded → Record
+record_handed (Ok rec) = rec
+record_handed (Err e) = zero_record
 
 -- what loading a text into lent slices gives: the outcome, and whether the slices are looked at
 pub data Given : Type 0 where

@@ -1,6 +1,6 @@
 -- What a look-up answers: the table's line that reads a code, or the one that says what becomes of a code point
 -- (document 01, 'The two pipes').
-use Rattle.std.specs.Prelude.{if◌then◌else◌, ℕ, ◌+◌, ◌≡◌, true, List, map, take, eqb}
+use Rattle.std.specs.Prelude.{if◌then◌else◌, ℕ, ◌+◌, ◌≡◌, true, List, map, take, eqb, Option as Optional, Some, None}
 use Rattle.std.proofs.Math.Option.{Option, none, some}
 use Rattle.lists.specs.Order.{In}
 use Rattle.table.specs.Limits.{Limits}
@@ -15,8 +15,6 @@ use Rattle.table.specs.declared.valid.Record.{Record}
 use Rattle.table.specs.declared.lookup.Use.{Use}
 use Rattle.table.specs.declared.lookup.Use.TheVariants.{RoundTrip, Fallback, Substituted, ReverseFallback}
 use Rattle.table.specs.declared.lookup.Mapping.{Mapping}
-use Rattle.table.specs.declared.lookup.Found.{Found}
-use Rattle.table.specs.declared.lookup.Found.TheVariants as found
 
 -- the indicator's digit
 abbrev pub indicator_of : Use → ℕ
@@ -28,9 +26,9 @@ indicator_of ReverseFallback = 3
 abbrev pub as_line : Mapping → Line
 as_line m = record { point = m.point; code = bytes_of m.code; indicator = indicator_of m.used }
 
-abbrev pub line_found : Found → Option Line
-line_found (found.Line m) = some (as_line m)
-line_found found.Nothing = none
+abbrev pub line_found : Optional Mapping → Option Line
+line_found (Some m) = some (as_line m)
+line_found None = none
 
 -- a stored line as it is found
 abbrev pub use_in : ℕ → Use
@@ -58,18 +56,18 @@ mappings_in rec codes infos = map mapping_in (stored_list (take rec.mappings cod
 
 -- THE ANSWER for a code: on memory that passes the test behind 60 the table's reader; on any memory nothing, or a
 -- stored line that is read and has just this code
-pub record CodeFound (rec : Record) (codes infos : List ℕ) (code : Code) (r : Found) : Type 0 where
+pub record CodeFound (rec : Record) (codes infos : List ℕ) (code : Code) (r : Optional Mapping) : Type 0 where
   pub on-valid : (lim : Limits) (states order : List ℕ)
       → valid lim rec (slices states codes infos order) ≡ true
       → line_found r ≡ reader_of code (lines_in rec codes infos)
-  pub on-any : (m : Mapping) → r ≡ found.Line m
+  pub on-any : (m : Mapping) → r ≡ Some m
       → In m (mappings_in rec codes infos) × (is_read (as_line m) ≡ true) × (m.code ≡ code)
 
 -- THE ANSWER for a code point: the table's writer; on any memory nothing, or a stored line that says what becomes of it
 -- (no `|3` line)
-pub record PointFound (rec : Record) (codes infos order : List ℕ) (point : ℕ) (r : Found) : Type 0 where
+pub record PointFound (rec : Record) (codes infos order : List ℕ) (point : ℕ) (r : Optional Mapping) : Type 0 where
   pub on-valid : (lim : Limits) (states : List ℕ)
       → valid lim rec (slices states codes infos order) ≡ true
       → line_found r ≡ writer point (lines_in rec codes infos)
-  pub on-any : (m : Mapping) → r ≡ found.Line m
+  pub on-any : (m : Mapping) → r ≡ Some m
       → In m (mappings_in rec codes infos) × (decides_point (as_line m) ≡ true) × (m.point ≡ point)

@@ -5,7 +5,10 @@
 -- Contents: the number of a refusal; n1 to n28; conditions, and the lowest that holds; the conditions at each kind of
 -- line.
 -- Cases: proofs/HeaderCases.antt, proofs/TextCases.antt
-use Rattle.std.specs.Prelude.{if◌then◌else◌, ℕ, ◌+◌, Bool, true, false, not, List}
+use Rattle.table.specs.Header.{ReadValue}
+use Rattle.std.specs.Prelude.{Some, None}
+use Rattle.table.specs.Header.{ReadLine}
+use Rattle.std.specs.Prelude.{if◌then◌else◌, ℕ, ◌+◌, Bool, true, false, not, List, Result, Ok, Err, ⊤}
 use Rattle.std.specs.Prelude.{[], ◌∷◌, length, replicate, ltb, leb, eqb}
 use Rattle.lists.specs.Pick.{◌and◌, ◌or◌}
 use Rattle.table.specs.Limits.{Limits, needed}
@@ -19,19 +22,15 @@ use Rattle.lists.specs.Options.{is_some}
 use Rattle.table.specs.Header.{by_value}
 use Rattle.table.specs.declared.load.Refusal.{Refusal}
 use Rattle.table.specs.declared.load.Refusal.TheVariants as refusal
-use Rattle.table.specs.declared.load.Answer.{Answer}
-use Rattle.table.specs.declared.load.Answer.TheVariants.{Accepted, Refused}
-use Rattle.table.specs.declared.load.Verdict.{Verdict}
-use Rattle.table.specs.declared.load.Verdict.TheVariants.{Fine, Refuse}
+use Rattle.table.specs.declared.load.Refused.{Refused}
+use Rattle.table.specs.declared.valid.Record.{Record}
 use Rattle.table.specs.Mapping.{BodyLine, no_form, reserved, blank, ending, mapping}
-use Rattle.table.specs.declared.header.HeaderLine.{HeaderLine}
 use Rattle.table.specs.declared.header.HeaderLine.TheVariants as header
 use Rattle.table.specs.declared.load.Phase.{Phase}
 use Rattle.table.specs.declared.load.Phase.TheVariants.{Header, Mappings, Ended}
 use Rattle.table.specs.declared.value.Key.{Key}
 use Rattle.table.specs.declared.value.Key.TheVariants.{CodeSetName, CurMin, CurMax, ConvClass, SubChar}
 use Rattle.table.specs.declared.value.Key.TheVariants.{SubChar1, State, Base, Other}
-use Rattle.table.specs.declared.value.Value.{Value}
 
 -- the number of each refusal (28 is document 02's)
 abbrev pub refusal_number : Refusal → ℕ
@@ -54,10 +53,14 @@ refusal_number refusal.TooMany = 26
 refusal_number refusal.NoEnd = 27
 refusal_number refusal.NotReadBack = 28
 
+-- what loading hands back: the record of an accepted text, or why and at which line it is refused
+abbrev pub Loaded : Type 0
+Loaded = Result Record Refused
+
 -- the number of the answer to a text: 0 where it is accepted
-abbrev pub answer_number : Answer → ℕ
-answer_number Accepted = 0
-answer_number (Refused x) = refusal_number x
+abbrev pub answer_number : Loaded → ℕ
+answer_number (Ok rec) = 0
+answer_number (Err e) = refusal_number e.why
 
 -- 1, before the text is read: lent memory too small; the lengths of the four slices
 abbrev pub n1 : Limits → ℕ → ℕ → ℕ → ℕ → Bool
@@ -68,11 +71,11 @@ abbrev pub n2 : Limits → List ℕ → Bool
 n2 lim text = ltb lim.text (length text)
 
 -- 10: a line of no form that may stand in its part of the text, nor one named under 14. Before CHARMAP
-abbrev pub n10 : HeaderLine → Bool
-n10 header.NoForm = true
-n10 header.Blank = false
-n10 header.Charmap = false
-n10 (header.Known k v q e) = false
+abbrev pub n10 : ReadLine → Bool
+n10 None = true
+n10 (Some header.Blank) = false
+n10 (Some header.Charmap) = false
+n10 (Some (header.Known k v q e)) = false
 
 -- 10 from CHARMAP on; behind END CHARMAP (ended) neither a mapping nor END CHARMAP may stand
 abbrev pub n10_behind : Bool → BodyLine → Bool
@@ -95,7 +98,7 @@ n11 h Base = false
 n11 h Other = false
 
 -- 12: known key, malformed value; what 14 or 15 refuses is let through
-unfoldable pub n12 : Value → Bool
+unfoldable pub n12 : ReadValue → Bool
 n12 v = by_value true false false (λ w l o. false) v
 
 -- what must stand before CHARMAP: the required keys, and a row, which SBCS may be without
@@ -117,7 +120,7 @@ unfoldable pub row_unbuilt : ℕ → ℕ → Bool → Bool
 row_unbuilt rows w l = l or eqb w 2 or (eqb w 1 and ltb 0 rows)
 
 -- 14 of a header line: class DBCS or EBCDIC_STATEFUL, icu:base, or such a row
-unfoldable pub n14 : ℕ → Value → Bool
+unfoldable pub n14 : ℕ → ReadValue → Bool
 n14 rows v = by_value false true false (λ w l o. row_unbuilt rows w l) v
 
 -- 14 of a line from CHARMAP on: second CHARMAP, indicator 4, several code points or a `+` in a mapping
@@ -132,7 +135,7 @@ n14_behind (mapping u c d) = false
 unfoldable pub row_over : Limits → ℕ → Bool → Bool
 row_over lim rows o = o or not (t1_rows lim (rows + 1))
 
-unfoldable pub n15 : Limits → ℕ → Value → Bool
+unfoldable pub n15 : Limits → ℕ → ReadValue → Bool
 n15 lim rows v = by_value false false false (λ w l o. row_over lim rows o) v
 
 -- the rows at CHARMAP: SBCS without any has one row `0-ff`
@@ -196,10 +199,14 @@ pub record Cond : Type 0 where
 abbrev pub cond : Refusal → Bool → Cond
 cond r b = record { refusal = r; holds = b }
 
+-- what the conditions at a line say: none holds, or the refusal of one that does
+abbrev pub Verdict : Type 0
+Verdict = Result ⊤ Refusal
+
 -- the first condition that holds. Conditions are listed by rising number, so it is the lowest
 unfoldable pub lowest : List Cond → Verdict
-lowest [] = Fine
-lowest (c ∷ cs) = let r = lowest cs in if c.holds then Refuse c.refusal else r
+lowest [] = Ok tt
+lowest (c ∷ cs) = let r = lowest cs in if c.holds then Err c.refusal else r
 
 -- of the conditions at a line 16, 20 to 26 and 28 are about T1 to T10, the others about the grammar; of T1 the grammar
 -- itself asks for a row (13) and allows no row beyond the last (15)
@@ -208,16 +215,16 @@ is_rule x = leb 16 (refusal_number x)
 
 -- the first condition of the grammar that holds
 unfoldable pub in_form : List Cond → Verdict
-in_form [] = Fine
+in_form [] = Ok tt
 in_form (c ∷ cs) = let r = in_form cs in
-    if is_rule c.refusal then r else if c.holds then Refuse c.refusal else r
+    if is_rule c.refusal then r else if c.holds then Err c.refusal else r
 
 -- a line of no form before CHARMAP, and a blank one
-abbrev pub form_conditions : HeaderLine → List Cond
+abbrev pub form_conditions : ReadLine → List Cond
 form_conditions x = cond refusal.NoForm (n10 x) ∷ []
 
 -- a header line behind so many rows
-unfoldable pub key_conditions : Limits → Keys → ℕ → Key → Value → List Cond
+unfoldable pub key_conditions : Limits → Keys → ℕ → Key → ReadValue → List Cond
 key_conditions lim h rows k v =
     cond refusal.KeyAgain (n11 h k)
     ∷ cond refusal.UnfitValue (n12 v)

@@ -4,7 +4,7 @@
 -- Contents: the parts of an entry; entries one after the other; entries under 14 and 15; what an entry means, and a
 -- row; `initial`.
 -- Cases: proofs/HeaderCases.antt
-use Rattle.std.specs.Prelude.{if◌then◌else◌, ℕ, zero, suc, ◌+◌, List, [], ◌∷◌, Bool}
+use Rattle.std.specs.Prelude.{if◌then◌else◌, ℕ, zero, suc, ◌+◌, List, [], ◌∷◌, Bool, Option, Some, None}
 use Rattle.std.specs.Prelude.{true, false, length, drop, replicate, ltb, leb, eqb}
 use Rattle.lists.specs.Ascii.{ascii, byte}
 use Rattle.lists.specs.Pick.{◌or◌}
@@ -12,58 +12,68 @@ use Rattle.table.specs.Cells.{Cell, illegal, ends, ends_any, ends_unassigned, le
 use Rattle.table.specs.Text.{byte_of, skip_at, number_at}
 use Rattle.lists.specs.Strings.{begins}
 use Rattle.lists.specs.Place.{fill_range}
-use Rattle.table.specs.declared.text.Num.{Num}
-use Rattle.table.specs.declared.text.Num.TheVariants.{Val, Bad}
-use Rattle.table.specs.declared.row.Entry.{Entry}
-use Rattle.table.specs.declared.row.ReadEntry.{ReadEntry}
-use Rattle.table.specs.declared.row.ReadEntry.TheVariants.{More, Last, Wrong}
+
+-- one entry of a row: bytes lo to hi, the next row (256 where none is named) and how it ends (0 no point; after a
+-- point: 1 no letter, 2 `p`, 3 `u`, 4 `i`, 5 `s`)
+pub record Entry : Type 0 where
+  pub lo : ℕ
+  pub hi : ℕ
+  pub next : ℕ
+  pub kind : ℕ
+
+-- an entry, and where the next one begins if a comma follows; or text of no such form
+abbrev pub ReadEntry : Type 0
+ReadEntry = Option (Entry × Option ℕ)
 
 -- `- number`, or the byte itself
-unfoldable pub to_at : List ℕ → ℕ → ℕ → Num
+unfoldable pub to_at : List ℕ → ℕ → ℕ → Option (ℕ × ℕ)
 to_at s from q =
-    if eqb (byte_of s (skip_at s q)) (byte "-") then number_at s (skip_at s (skip_at s q + 1)) else Val from q
+    if eqb (byte_of s (skip_at s q)) (byte "-") then number_at s (skip_at s (skip_at s q + 1)) else Some (from, q)
 
 -- `: number`, or 256 for none
-unfoldable pub next_at : List ℕ → ℕ → Num
-next_at s q = if eqb (byte_of s (skip_at s q)) (byte ":") then number_at s (skip_at s (skip_at s q + 1)) else Val 256 q
+unfoldable pub next_at : List ℕ → ℕ → Option (ℕ × ℕ)
+next_at s q =
+    if eqb (byte_of s (skip_at s q)) (byte ":") then number_at s (skip_at s (skip_at s q + 1)) else Some (256, q)
 
 -- after a point: 2 `p`, 3 `u`, 4 `i`, 5 `s`, 1 for none of them
-unfoldable pub letter_at : List ℕ → ℕ → ℕ → Num
+unfoldable pub letter_at : List ℕ → ℕ → ℕ → Option (ℕ × ℕ)
 letter_at s back at =
-    if eqb (byte_of s at) (byte "p") then Val 2 (at + 1) else
-    if eqb (byte_of s at) (byte "u") then Val 3 (at + 1) else
-    if eqb (byte_of s at) (byte "i") then Val 4 (at + 1) else
-    if eqb (byte_of s at) (byte "s") then Val 5 (at + 1) else
-    Val 1 back
+    if eqb (byte_of s at) (byte "p") then Some (2, at + 1) else
+    if eqb (byte_of s at) (byte "u") then Some (3, at + 1) else
+    if eqb (byte_of s at) (byte "i") then Some (4, at + 1) else
+    if eqb (byte_of s at) (byte "s") then Some (5, at + 1) else
+    Some (1, back)
 
 -- `.` and a letter or nothing; 0 for no point
-unfoldable pub end_at : List ℕ → ℕ → Num
+unfoldable pub end_at : List ℕ → ℕ → Option (ℕ × ℕ)
 end_at s q =
     if eqb (byte_of s (skip_at s q)) (byte ".")
     then letter_at s (skip_at s q + 1) (skip_at s (skip_at s q + 1))
-    else Val 0 q
+    else Some (0, q)
 
 -- an entry is followed by a comma or by the end
 unfoldable pub entry_sep : List ℕ → Entry → ℕ → ReadEntry
 entry_sep s e at =
-    if leb (length s) at then Last e else if eqb (byte_of s at) (byte ",") then More e (at + 1) else Wrong
+    if leb (length s) at then Some (e, None) else
+    if eqb (byte_of s at) (byte ",") then Some (e, Some (at + 1)) else
+    None
 
-unfoldable pub entry_end : List ℕ → ℕ → ℕ → ℕ → Num → ReadEntry
-entry_end s from to next Bad = Wrong
-entry_end s from to next (Val end q) =
+abbrev pub entry_end : List ℕ → ℕ → ℕ → ℕ → Option (ℕ × ℕ) → ReadEntry
+entry_end s from to next None = None
+entry_end s from to next (Some (end, q)) =
     entry_sep s (record { lo = from; hi = to; next = next; kind = end }) (skip_at s q)
 
-unfoldable pub entry_next : List ℕ → ℕ → ℕ → Num → ReadEntry
-entry_next s from to Bad = Wrong
-entry_next s from to (Val next q) = entry_end s from to next (end_at s q)
+abbrev pub entry_next : List ℕ → ℕ → ℕ → Option (ℕ × ℕ) → ReadEntry
+entry_next s from to None = None
+entry_next s from to (Some (next, q)) = entry_end s from to next (end_at s q)
 
-unfoldable pub entry_to : List ℕ → ℕ → Num → ReadEntry
-entry_to s from Bad = Wrong
-entry_to s from (Val to q) = entry_next s from to (next_at s q)
+abbrev pub entry_to : List ℕ → ℕ → Option (ℕ × ℕ) → ReadEntry
+entry_to s from None = None
+entry_to s from (Some (to, q)) = entry_next s from to (next_at s q)
 
-unfoldable pub entry_from : List ℕ → Num → ReadEntry
-entry_from s Bad = Wrong
-entry_from s (Val from q) = entry_to s from (to_at s from q)
+abbrev pub entry_from : List ℕ → Option (ℕ × ℕ) → ReadEntry
+entry_from s None = None
+entry_from s (Some (from, q)) = entry_to s from (to_at s from q)
 
 -- one entry, blanks around its tokens
 unfoldable pub entry_at : List ℕ → ℕ → ReadEntry
@@ -71,21 +81,21 @@ entry_at s at = entry_from s (number_at s (skip_at s at))
 
 -- the entries from one that was read on, up to one of no form. f bounds their number
 unfoldable pub entries_go : ℕ → List ℕ → ReadEntry → List Entry
-entries_go zero s Wrong = []
-entries_go zero s (Last e) = e ∷ []
-entries_go zero s (More e q) = []
-entries_go (suc f) s Wrong = []
-entries_go (suc f) s (Last e) = e ∷ []
-entries_go (suc f) s (More e q) = e ∷ entries_go f s (entry_at s q)
+entries_go zero s None = []
+entries_go zero s (Some (e, None)) = e ∷ []
+entries_go zero s (Some (e, Some q)) = []
+entries_go (suc f) s None = []
+entries_go (suc f) s (Some (e, None)) = e ∷ []
+entries_go (suc f) s (Some (e, Some q)) = e ∷ entries_go f s (entry_at s q)
 
 -- every one has the form of an entry
 unfoldable pub well_go : ℕ → List ℕ → ReadEntry → Bool
-well_go zero s Wrong = false
-well_go zero s (Last e) = true
-well_go zero s (More e q) = false
-well_go (suc f) s Wrong = false
-well_go (suc f) s (Last e) = true
-well_go (suc f) s (More e q) = well_go f s (entry_at s q)
+well_go zero s None = false
+well_go zero s (Some (e, None)) = true
+well_go zero s (Some (e, Some q)) = false
+well_go (suc f) s None = false
+well_go (suc f) s (Some (e, None)) = true
+well_go (suc f) s (Some (e, Some q)) = well_go f s (entry_at s q)
 
 unfoldable pub entries_at : List ℕ → ℕ → List Entry
 entries_at s at = entries_go (length s) s (entry_at s at)
@@ -121,19 +131,19 @@ overwritten value [] row = row
 overwritten value (e ∷ es) row = overwritten value es (fill_range e.lo e.hi (value e) row)
 
 -- the word that may open a row (1 `initial`, 2 `surrogates`, 0 none) and where the entries begin
-unfoldable pub comma_at : List ℕ → ℕ → ℕ → Num
-comma_at s k at = if eqb (byte_of s at) (byte ",") then Val k (at + 1) else Bad
+unfoldable pub comma_at : List ℕ → ℕ → ℕ → Option (ℕ × ℕ)
+comma_at s k at = if eqb (byte_of s at) (byte ",") then Some (k, at + 1) else None
 
-unfoldable pub open_at : List ℕ → ℕ → Num
+unfoldable pub open_at : List ℕ → ℕ → Option (ℕ × ℕ)
 open_at s p =
     if begins (ascii "initial") (drop p s) then comma_at s 1 (skip_at s (p + 7)) else
     if begins (ascii "surrogates") (drop p s) then comma_at s 2 (skip_at s (p + 10)) else
-    Val 0 p
+    Some (0, p)
 
 -- the entries of a row's text
-unfoldable pub entries_from : List ℕ → Num → List Entry
-entries_from s Bad = []
-entries_from s (Val k q) = entries_at s q
+unfoldable pub entries_from : List ℕ → Option (ℕ × ℕ) → List Entry
+entries_from s None = []
+entries_from s (Some (k, q)) = entries_at s q
 
 unfoldable pub entries_of : List ℕ → List Entry
 entries_of s = if leb (length s) (skip_at s 0) then [] else entries_from s (open_at s (skip_at s 0))

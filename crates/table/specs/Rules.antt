@@ -1,6 +1,7 @@
 -- T1 to T9 (document 01, 'What every table keeps') and T10 (document 02, request 5), one definition each, over rows and
 -- lines alone. `Keeps` is a table that keeps them all.
 use Rattle.std.specs.Prelude.{if◌then◌else◌, ℕ, ◌≡◌, Bool, true, false, List, [], ◌∷◌, length, get_or, ltb, leb, eqb}
+use Rattle.std.specs.Prelude.{Option as Optional, Some, None}
 use Rattle.std.proofs.Math.Option.{Option, none, some}
 use Rattle.lists.specs.Pick.{◌and◌, ◌or◌, ◌implies◌}
 use Rattle.table.specs.Limits.{Limits}
@@ -11,6 +12,8 @@ use Rattle.lists.specs.Options.{is_some}
 use Rattle.lists.specs.Strings.{same}
 use Rattle.lists.specs.Tests.{all_of, any_of}
 use Rattle.table.specs.Cells.{Cell, cell_step}
+use Rattle.table.specs.declared.states.EndKind.{EndKind}
+use Rattle.table.specs.declared.states.EndKind.TheVariants.{Assigned, AnyPoint, Unassigned}
 
 -- T1: at least one row, no more rows and mappings than the limits, mb_cur_min no larger than mb_cur_max, both 1 to 4
 abbrev pub t1_rows : Limits → ℕ → Bool
@@ -46,8 +49,11 @@ t4_sub1 step (some b) = is_code step 0 (b ∷ [])
 
 -- T5: a `|0`, `|1` or `|3` line has a complete code, not ended by `u`, of mb_cur_min to mb_cur_max bytes; above U+FFFF
 -- it needs `p`
-abbrev pub t5_kind : ℕ → ℕ → Bool
-t5_kind point kind = eqb kind 2 or (eqb kind 1 and leb point 0xffff)
+abbrev pub t5_kind : ℕ → Optional EndKind → Bool
+t5_kind point (Some AnyPoint) = true
+t5_kind point (Some Assigned) = leb point 0xffff
+t5_kind point (Some Unassigned) = false
+t5_kind point None = false
 
 abbrev pub t5 : Rows → ℕ → ℕ → Line → Bool
 t5 step min max l =

@@ -1,7 +1,8 @@
 -- What state rows say of a byte string (document 01, 'State rows'): a sequence cut by the states (`cut_of`), a complete
 -- code (`end_kind`, `is_code`), and how often rows lead on (`within`, T3). Rows are known by what a row says of a byte:
 -- `step row byte`.
-use Rattle.std.specs.Prelude.{if◌then◌else◌, ℕ, zero, suc, ◌+◌, ◌*◌, List, [], ◌∷◌, Bool, true, false, get_or, eqb}
+use Rattle.std.specs.Prelude.{if◌then◌else◌, ℕ, zero, suc, ◌+◌, ◌*◌, List, [], ◌∷◌, Bool, true, false, get_or}
+use Rattle.std.specs.Prelude.{Option, Some, None, is_some}
 use Rattle.lists.specs.Tests.{is_empty, all_below}
 use Rattle.table.specs.Cells.{cell_step, cell_in}
 use Rattle.table.specs.declared.states.Step.{Step}
@@ -9,6 +10,7 @@ use Rattle.table.specs.declared.states.Step.TheVariants.{Illegal, Ends, Leads}
 use Rattle.table.specs.declared.states.CutStop.TheVariants as cut_stop
 use Rattle.table.specs.declared.states.Cut.{Cut}
 use Rattle.table.specs.declared.states.Cut.TheVariants.{Complete, Stopped}
+use Rattle.table.specs.declared.states.EndKind.{EndKind}
 
 -- what the numbers in memory say: row r, byte b stands at 256 r + b; past the end all is illegal
 unfoldable pub step_at : List ℕ → ℕ → ℕ → Step
@@ -45,19 +47,19 @@ cut_from step first (suc f) row k (b ∷ s) =
 abbrev pub cut_of : Rows → ℕ → List ℕ → Cut
 cut_of step row s = cut_from step row longest row 0 s
 
--- how the whole of s ends as a complete code (document 01's term) from a row on: 1, 2 or 3; 0 where s is none.
+-- how the whole of s ends as a complete code (document 01's term) from a row on; None where s is none.
 -- It leads on at every byte but the last and ends there without being illegal.
-unfoldable pub end_kind : Rows → ℕ → List ℕ → ℕ
-end_kind step row [] = 0
+unfoldable pub end_kind : Rows → ℕ → List ℕ → Option EndKind
+end_kind step row [] = None
 end_kind step row (b ∷ s) =
     elim (step row b) [
-      | Illegal ↦ 0
-      | Ends e ↦ if is_empty s then e else 0
+      | Illegal ↦ None
+      | Ends e ↦ if is_empty s then Some e else None
       | Leads n ↦ end_kind step n s
     ]
 
 abbrev pub is_code : Rows → ℕ → List ℕ → Bool
-is_code step row s = if eqb (end_kind step row s) 0 then false else true
+is_code step row s = is_some (end_kind step row s)
 
 abbrev pub leads_to : (ℕ → Bool) → Step → Bool
 leads_to w Illegal = true

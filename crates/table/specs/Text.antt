@@ -4,14 +4,10 @@
 -- CHARMAP.
 -- Cases: proofs/HeaderCases.antt, proofs/MappingCases.antt
 use Rattle.std.specs.Prelude.{if◌then◌else◌, ℕ, zero, suc, ◌+◌, ◌*◌, ◌-◌, List, [], ◌∷◌}
-use Rattle.std.specs.Prelude.{Bool, true, false, length, get_or, drop, ltb, leb, eqb}
+use Rattle.std.specs.Prelude.{Bool, true, false, length, get_or, drop, ltb, leb, eqb, Option, Some, None}
 use Rattle.lists.specs.Ascii.{ascii, byte}
 use Rattle.lists.specs.Pick.{◌and◌, ◌or◌}
 use Rattle.lists.specs.Strings.{begins, onto}
-use Rattle.table.specs.declared.text.Num.{Num}
-use Rattle.table.specs.declared.text.Num.TheVariants.{Val, Bad}
-use Rattle.table.specs.declared.text.Place.{Place}
-use Rattle.table.specs.declared.text.Place.TheVariants.{At, No}
 
 -- a CR right before an LF
 unfoldable pub cr_before : ℕ → List ℕ → Bool
@@ -35,6 +31,10 @@ digit_of b =
     if ltb b (byte "a") then 16 else
     if leb b (byte "f") then b - 87 else
     16
+
+-- the digit that a byte is, if it is one
+abbrev pub digit_in : ℕ → Option ℕ
+digit_in b = if ltb (digit_of b) 16 then Some (digit_of b) else None
 
 -- the byte at a position, or 256 past the end
 abbrev pub byte_of : List ℕ → ℕ → ℕ
@@ -62,13 +62,13 @@ flipped q b = if eqb b (byte "\"") then (if q then false else true) else q
 unfoldable pub foreign : ℕ → Bool
 foreign b = eqb b (byte "\r") or leb 128 b
 
--- where a line's content ends: at the first `#` outside quotes, or with the line. No: a foreign byte stands outside
+-- where a line's content ends: at the first `#` outside quotes, or with the line. None: a foreign byte stands outside
 -- quotes and comment
-unfoldable pub content_end : Bool → ℕ → List ℕ → Place
-content_end q at [] = At at
+unfoldable pub content_end : Bool → ℕ → List ℕ → Option ℕ
+content_end q at [] = Some at
 content_end q at (b ∷ bs) =
     let r = content_end (flipped q b) (at + 1) bs in
-    if q then r else if eqb b (byte "#") then At at else if foreign b then No else r
+    if q then r else if eqb b (byte "#") then Some at else if foreign b then None else r
 
 -- where the next `"` stands, or the end
 unfoldable pub quote_end : ℕ → List ℕ → ℕ
@@ -76,38 +76,38 @@ quote_end at [] = at
 quote_end at (b ∷ bs) = let r = quote_end (at + 1) bs in if eqb b (byte "\"") then at else r
 
 -- what is read where a test holds, and nowhere else
-abbrev pub only_if : Bool → Num → Num
-only_if test n = if test then n else Bad
+abbrev pub only_if : Bool → Option (ℕ × ℕ) → Option (ℕ × ℕ)
+only_if test n = if test then n else None
 
 -- one or two hexadecimal digits
-unfoldable pub number_at : List ℕ → ℕ → Num
+unfoldable pub number_at : List ℕ → ℕ → Option (ℕ × ℕ)
 number_at s at =
     only_if (ltb (digit_of (byte_of s at)) 16)
     (if ltb (digit_of (byte_of s (at + 1))) 16
-    then Val (digit_of (byte_of s at) * 16 + digit_of (byte_of s (at + 1))) (at + 2)
-    else Val (digit_of (byte_of s at)) (at + 1))
+    then Some (digit_of (byte_of s at) * 16 + digit_of (byte_of s (at + 1)), at + 2)
+    else Some (digit_of (byte_of s at), at + 1))
 
 -- `\xhh`
-unfoldable pub byte_at : List ℕ → ℕ → Num
+unfoldable pub byte_at : List ℕ → ℕ → Option (ℕ × ℕ)
 byte_at s at =
     only_if (eqb (byte_of s at) (byte "\\"))
     (only_if (eqb (byte_of s (at + 1)) (byte "x"))
     (only_if (ltb (digit_of (byte_of s (at + 2))) 16)
     (only_if (ltb (digit_of (byte_of s (at + 3))) 16)
-    (Val (digit_of (byte_of s (at + 2)) * 16 + digit_of (byte_of s (at + 3))) (at + 4)))))
+    (Some (digit_of (byte_of s (at + 2)) * 16 + digit_of (byte_of s (at + 3)), at + 4)))))
 
 -- 1 to 6 hexadecimal digits and `>`; n digits so far, v their value
-unfoldable pub point_digits : ℕ → ℕ → ℕ → List ℕ → Num
-point_digits n v at [] = Bad
+unfoldable pub point_digits : ℕ → ℕ → ℕ → List ℕ → Option (ℕ × ℕ)
+point_digits n v at [] = None
 point_digits n v at (b ∷ bs) =
     let r = point_digits (n + 1) (v * 16 + digit_of b) (at + 1) bs in
-    if eqb b (byte ">") then (if eqb n 0 then Bad else Val v (at + 1)) else
-    if eqb (digit_of b) 16 then Bad else
-    if eqb n 6 then Bad else
+    if eqb b (byte ">") then (if eqb n 0 then None else Some (v, at + 1)) else
+    if eqb (digit_of b) 16 then None else
+    if eqb n 6 then None else
     r
 
 -- `<U` digits `>`
-unfoldable pub unicode_at : List ℕ → ℕ → Num
+unfoldable pub unicode_at : List ℕ → ℕ → Option (ℕ × ℕ)
 unicode_at s at =
     only_if (eqb (byte_of s at) (byte "<"))
     (only_if (eqb (byte_of s (at + 1)) (byte "U"))
@@ -131,15 +131,15 @@ with_byte v p broken = broken
 with_byte v p (series l m e) = series (v ∷ l) (p or m) e
 
 -- further bytes from q on, the first of which is given; a `+` without one is malformed. f bounds their number
-unfoldable pub bytes_more : ℕ → List ℕ → ℕ → Num → ByteSeries
-bytes_more zero s q Bad = if plus_at s q then broken else series [] false q
-bytes_more zero s q (Val v e) = broken
-bytes_more (suc f) s q Bad = if plus_at s q then broken else series [] false q
-bytes_more (suc f) s q (Val v e) = with_byte v (plus_at s q) (bytes_more f s e (byte_at s (join_at s e)))
+unfoldable pub bytes_more : ℕ → List ℕ → ℕ → Option (ℕ × ℕ) → ByteSeries
+bytes_more zero s q None = if plus_at s q then broken else series [] false q
+bytes_more zero s q (Some (v, e)) = broken
+bytes_more (suc f) s q None = if plus_at s q then broken else series [] false q
+bytes_more (suc f) s q (Some (v, e)) = with_byte v (plus_at s q) (bytes_more f s e (byte_at s (join_at s e)))
 
-abbrev pub bytes_from : List ℕ → Num → ByteSeries
-bytes_from s Bad = broken
-bytes_from s (Val v e) = with_byte v false (bytes_more (length s) s e (byte_at s (join_at s e)))
+abbrev pub bytes_from : List ℕ → Option (ℕ × ℕ) → ByteSeries
+bytes_from s None = broken
+bytes_from s (Some (v, e)) = with_byte v false (bytes_more (length s) s e (byte_at s (join_at s e)))
 
 -- one or more bytes
 unfoldable pub bytes_at : List ℕ → ℕ → ByteSeries

@@ -1,5 +1,6 @@
 // A line before CHARMAP: its key, value and comment, the conditions 11 to 15, and the header with the value in it.
 ghost use Rattle.std.specs.Prelude.{if◌then◌else◌, ◌≡◌, true, false, map, ◌+◌, ◌-◌, ◌≤◌, ◌<◌, length, take, drop};
+ghost use Rattle.std.specs.Prelude.{Ok, Err};
 ghost use Rattle.table.specs.Limits.{limits, needed};
 ghost use Rattle.table.specs.Cells.{cell_number};
 ghost use Rattle.lists.specs.Strings.{same};
@@ -12,27 +13,25 @@ ghost use Rattle.table.specs.Numbers.{n11, row_unbuilt, row_over, lowest, key_co
 ghost use Rattle.table.specs.Load.{keep_value};
 ghost use Rattle.table.specs.loops.Progress.{keys_in, head_of, ProperHead};
 ghost use Rattle.table.specs.declared.load.Refusal.TheVariants.{NotBuilt, OutOfRange};
-ghost use Rattle.table.specs.declared.load.Verdict.TheVariants.{Fine, Refuse};
-ghost use Rattle.table.specs.loops.Ranges.{Within, NumAtMost, Placed, Stands, Fits, Ranged, InLine, InRange};
+ghost use Rattle.table.specs.loops.Ranges.{Within, NumAtMost, Placed, Stands, Ranged, InLine, InRange};
 ghost use Rattle.table.specs.loops.Coded.{put_row};
 
-use crate::load::{Refusal, Verdict};
+use crate::load::Refusal;
 use crate::row::put_row;
 use crate::states::{Code, ROWS};
-use crate::text::{Place, ends, is_charmap, skip};
+use crate::text::{ends, is_charmap, skip};
 use crate::value::{Key, Value, key_of, value_of};
 
 // A line before CHARMAP, by form. The value's text is line[q..e].
 #[derive(Clone, Copy)]
 pub enum HeaderLine {
-    NoForm,
     Blank,
     Charmap,
-    Known(Key, Value, usize, usize),
+    Known(Key, Option<Value>, usize, usize),
 }
 
 // The header so far: a number is 0, and `sub` has no bytes, while the key is absent. class: 1 SBCS, 2 MBCS; sub1: 1 +
-// the byte.
+// the byte. Kept as numbers: `load` promises them so in the record, and each Option would only be taken apart again.
 #[derive(Clone, Copy)]
 pub struct Head {
     pub name: bool,
@@ -45,148 +44,109 @@ pub struct Head {
 }
 
 // A byte that a key may have.
+#[tactic(auto, unfolding(crate::specs::Header::key_byte))]
 fn key_byte(b: u8) -> bool
     ensures { result ≡ key_byte b }
 {
-    if b < 33 {
-        return false;
-    }
-    if 127 <= b {
-        return false;
-    }
-    if b == b'<' {
-        return false;
-    }
-    if b == b'>' {
-        return false;
-    }
-    if b == b'#' {
-        return false;
-    }
-    true
+    matches!(b, 33..=126) && !matches!(b, b'<' | b'>' | b'#')
 }
 
 // The place of the `>` after a run of key bytes.
-fn key_end(s: &[u8], at: usize) -> Place
+// Kept as a loop: it looks for two things at once, the `>` and a byte that ends the search.
+// Text and place stay two arguments, as the definitions of the readers speak of both.
+fn key_end(s: &[u8], at: usize) -> Option<usize>
     requires { at ≤ length s.now }
     ensures { (result ≡ key_end at (drop at s.now)) × Stands result at (length s.now) }
 {
-    let mut i = at;
-    while i < s.len() {
-        let b = s[i];
-        if b == b'>' {
-            return Place::At(i);
+    for i in at..s.len() {
+        if s[i] == b'>' {
+            return Some(i);
         }
-        if key_byte(b) {
-            i += 1;
-        } else {
-            return Place::No;
+        if !key_byte(s[i]) {
+            return None;
         }
     }
-    Place::No
+    None
 }
 
 // Whether a quote is open after a byte.
+#[tactic(auto, unfolding(crate::specs::Text::flipped))]
 fn flip(quoted: bool, b: u8) -> bool
     ensures { result ≡ flipped quoted b }
 {
-    if b != b'"' {
-        return quoted;
-    }
-    if quoted {
-        return false;
-    }
-    true
+    quoted != (b == b'"')
 }
 
 // A byte that may only stand in quotes or a comment.
+#[tactic(auto, unfolding(crate::specs::Text::foreign))]
 fn foreign_byte(b: u8) -> bool
     ensures { result ≡ foreign b }
 {
-    if b == b'\r' {
-        return true;
-    }
-    128 <= b
+    b == b'\r' || 128 <= b
 }
 
 // The place where the content of a line ends: at a comment, or at the line's end.
-fn content_end(s: &[u8], at: usize) -> Place
+// Kept as a loop: what a byte means depends on the quotes before it.
+fn content_end(s: &[u8], at: usize) -> Option<usize>
     requires { at ≤ length s.now }
     ensures { (result ≡ content_end false at (drop at s.now)) × Placed result at (length s.now) }
 {
-    let mut i = at;
     let mut quoted = false;
-    while i < s.len() {
+    for i in at..s.len() {
         let b = s[i];
-        if quoted {
-            quoted = flip(quoted, b);
-            i += 1;
-        } else {
+        if !quoted {
             if b == b'#' {
-                return Place::At(i);
+                return Some(i);
             }
             if foreign_byte(b) {
-                return Place::No;
+                return None;
             }
-            quoted = flip(quoted, b);
-            i += 1;
         }
+        quoted = flip(quoted, b);
     }
-    Place::At(i)
+    Some(s.len())
 }
 
 // The line of a key whose value starts at q.
-fn key_line(s: &[u8], k: Key, q: usize) -> HeaderLine
+fn key_line(s: &[u8], k: Key, q: usize) -> Option<HeaderLine>
     requires { q ≤ length s.now }
     ensures { let text = s.now in
         (result ≡ key_line text k q (content_end false q (drop q text)))
         × InLine result (length text) }
 {
-    let x = content_end(s, q);
-    match x {
-        Place::No => HeaderLine::NoForm,
-        Place::At(e) => {
-            let v = value_of(k, &s[q..e]);
-            HeaderLine::Known(k, v, q, e)
-        }
-    }
+    let e = content_end(s, q)?;
+    Some(HeaderLine::Known(k, value_of(k, &s[q..e]), q, e))
 }
 
 // A line whose key starts at `at`, after the `<`.
-fn keyed_line(s: &[u8], at: usize) -> HeaderLine
+fn keyed_line(s: &[u8], at: usize) -> Option<HeaderLine>
     requires { at ≤ length s.now }
     ensures { let text = s.now in
         (result ≡ keyed_line text at (key_end at (drop at text)))
         × InLine result (length text) }
 {
-    let x = key_end(s, at);
-    match x {
-        Place::No => HeaderLine::NoForm,
-        Place::At(e) => {
-            if at == e {
-                return HeaderLine::NoForm;
-            }
-            let k = key_of(&s[at..e]);
-            key_line(s, k, e + 1)
-        }
+    let e = key_end(s, at)?;
+    if at == e {
+        return None;
     }
+    key_line(s, key_of(&s[at..e]), e + 1)
 }
 
 // A line before CHARMAP, by form.
-pub(crate) fn read_line(s: &[u8]) -> HeaderLine
+pub(crate) fn read_line(s: &[u8]) -> Option<HeaderLine>
     ensures { (result ≡ header_line_of s.now) × InLine result (length s.now) }
 {
     let p = skip(s, 0);
     if ends(s, p) {
-        return HeaderLine::Blank;
+        return Some(HeaderLine::Blank);
     }
     if s[p] == b'<' {
         return keyed_line(s, p + 1);
     }
     if is_charmap(s, p) {
-        return HeaderLine::Charmap;
+        return Some(HeaderLine::Charmap);
     }
-    HeaderLine::NoForm
+    None
 }
 
 // 11: whether a key that may come once has come before.
@@ -200,131 +160,90 @@ fn seen(h: Head, k: Key) -> bool
         Key::ConvClass => 0 < h.class,
         Key::SubChar => 0 < h.sub.len,
         Key::SubChar1 => 0 < h.sub1,
-        Key::State => false,
-        Key::Base => false,
-        Key::Other => false,
+        Key::State | Key::Base | Key::Other => false,
     }
 }
 
 // 14 of a row: `surrogates`, `initial` off row 0, or 14 of an entry.
+#[tactic(auto, unfolding(crate::specs::Numbers::row_unbuilt))]
 fn row_unbuilt(rows: u32, w: u32, l: bool) -> bool
     ensures { result ≡ row_unbuilt rows w l }
 {
-    if l {
-        return true;
-    }
-    if w == 2 {
-        return true;
-    }
-    if w == 1 {
-        return 0 < rows;
-    }
-    false
+    l || w == 2 || w == 1 && 0 < rows
 }
 
 // 14 and 15 of a row.
-fn judge_row(rows: u32, w: u32, l: bool, o: bool) -> Verdict
-    ensures { result ≡ (if row_unbuilt rows w l then Refuse NotBuilt
-        else if row_over limits rows o then Refuse OutOfRange
-        else Fine) }
+#[tactic(auto, using(crate::proofs::OneMore::rows_over))]
+fn judge_row(rows: u32, w: u32, l: bool, o: bool) -> Result<(), Refusal>
+    ensures { result ≡ (if row_unbuilt rows w l then Err NotBuilt
+        else if row_over limits rows o then Err OutOfRange
+        else Ok tt) }
 {
     if row_unbuilt(rows, w, l) {
-        return Verdict::Refuse(Refusal::NotBuilt);
+        return Err(Refusal::NotBuilt);
     }
-    if o {
-        return Verdict::Refuse(Refusal::OutOfRange);
+    if o || ROWS <= rows as usize {
+        return Err(Refusal::OutOfRange);
     }
-    if ROWS <= rows as usize {
-        return Verdict::Refuse(Refusal::OutOfRange);
-    }
-    Verdict::Fine
+    Ok(())
 }
 
 // The lowest condition that holds at a key's line.
-pub(crate) fn judge_key(h: Head, k: Key, v: Value) -> Verdict
+pub(crate) fn judge_key(h: Head, k: Key, v: Option<Value>) -> Result<(), Refusal>
     ensures { result ≡ lowest (key_conditions limits (keys_in h) h.rows k v) }
 {
     if seen(h, k) {
-        return Verdict::Refuse(Refusal::KeyAgain);
+        return Err(Refusal::KeyAgain);
     }
-    match v {
-        Value::Unfit => Verdict::Refuse(Refusal::UnfitValue),
-        Value::Any => Verdict::Fine,
-        Value::Unbuilt => Verdict::Refuse(Refusal::NotBuilt),
-        Value::Name => Verdict::Fine,
-        Value::Min(_) => Verdict::Fine,
-        Value::Max(_) => Verdict::Fine,
-        Value::Class(_) => Verdict::Fine,
-        Value::Sub(_, _) => Verdict::Fine,
-        Value::Sub1(_) => Verdict::Fine,
+    let Some(value) = v else {
+        return Err(Refusal::UnfitValue);
+    };
+    match value {
+        Value::Unbuilt => Err(Refusal::NotBuilt),
         Value::Row(w, l, o) => judge_row(h.rows, w, l, o),
+        _ => Ok(()),
     }
 }
 
 // A value that is a row.
-fn is_row(v: Value) -> bool
+#[tactic(auto, unfolding(crate::specs::Header::is_row))]
+fn is_row(v: Option<Value>) -> bool
     ensures { result ≡ is_row v }
 {
-    match v {
-        Value::Unfit => false,
-        Value::Any => false,
-        Value::Unbuilt => false,
-        Value::Name => false,
-        Value::Min(_) => false,
-        Value::Max(_) => false,
-        Value::Class(_) => false,
-        Value::Sub(_, _) => false,
-        Value::Sub1(_) => false,
-        Value::Row(_, _, _) => true,
-    }
+    matches!(v, Some(Value::Row(..)))
 }
 
 // The header with a value in it.
-fn keep_value(h: Head, v: Value) -> Head
+// `ProperHead` is no invariant of `Head`: it would be proved at each of the values below.
+fn keep_value(h: Head, v: Option<Value>) -> Head
     requires { (h.rows ≤ limits.rows) × InRange v × ProperHead h }
     ensures { result ≡ head_of (keep_value (keys_in h) v) (if is_row v then h.rows + 1 else h.rows) }
 {
-    let mut g = h;
-    match v {
-        Value::Unfit => g,
-        Value::Any => g,
-        Value::Unbuilt => g,
-        Value::Name => {
-            g.name = true;
-            g
-        }
-        Value::Min(d) => {
-            g.min = d;
-            g
-        }
-        Value::Max(d) => {
-            g.max = d;
-            g
-        }
-        Value::Class(c) => {
-            g.class = c;
-            g
-        }
-        Value::Sub(bits, len) => {
-            let c = Code { bits, len };
-            g.sub = c;
-            g
-        }
-        Value::Sub1(b) => {
-            g.sub1 = 1 + b;
-            g
-        }
-        Value::Row(_, _, _) => {
-            g.rows = h.rows + 1;
-            g
-        }
+    let Some(value) = v else {
+        return h;
+    };
+    match value {
+        Value::Any | Value::Unbuilt => h,
+        Value::Name => Head { name: true, ..h },
+        Value::Min(d) => Head { min: d, ..h },
+        Value::Max(d) => Head { max: d, ..h },
+        Value::Class(c) => Head {
+            class: c.number(),
+            ..h
+        },
+        Value::Sub(code) => Head { sub: code, ..h },
+        Value::Sub1(b) => Head { sub1: 1 + b, ..h },
+        Value::Row(..) => Head {
+            rows: h.rows + 1,
+            ..h
+        },
     }
 }
 
 // The header with a value in it; a row is also written into the states, after the rows that came before.
 pub(crate) fn take_value(
     h: Head,
-    v: Value,
+    v: Option<Value>,
     line: &[u8],
     q: usize,
     e: usize,
@@ -334,14 +253,12 @@ pub(crate) fn take_value(
         × (needed limits ≤ length states.old)
         × (is_row v ≡ true → h.rows < limits.rows) × (h.rows ≤ limits.rows)
         × InRange v × ProperHead h }
-    ensures { let old = states.old in
-        let row = map cell_number (row_of (entries_of (take (e - q) (drop q line.now)))) in
-        (result ≡ head_of (keep_value (keys_in h) v) (if is_row v then h.rows + 1 else h.rows))
-        × (states.new ≡ (if is_row v then put_row h.rows row old else old)) }
+    ensures head { result ≡ head_of (keep_value (keys_in h) v) (if is_row v then h.rows + 1 else h.rows) }
+    ensures states { let row = map cell_number (row_of (entries_of (take (e - q) (drop q line.now)))) in
+        states.new ≡ (if is_row v then put_row h.rows row states.old else states.old) }
 {
     if is_row(v) {
         put_row(line, q, e, states, h.rows as usize);
-        return keep_value(h, v);
     }
     keep_value(h, v)
 }

@@ -4,6 +4,7 @@
 
 pub mod codes;
 pub mod header;
+pub mod lent;
 pub mod load;
 pub mod lookup;
 pub mod mapping;

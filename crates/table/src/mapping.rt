@@ -2,154 +2,150 @@
 ghost use Rattle.std.specs.Prelude.{◌≡◌, ◌≤◌, length};
 ghost use Rattle.table.specs.Text.{join_at, unicode_at};
 ghost use Rattle.table.specs.loops.Ranges.{NumAtMost, MappedFits};
+ghost use Rattle.table.specs.Lookup.{indicator_of};
 ghost use Rattle.table.specs.Mapping.{points_more, indicator_at, mapping_form, is_end, body_line_of, after_end_of};
-ghost use Rattle.table.specs.loops.Coded.{coded_line};
+ghost use Rattle.table.specs.loops.Coded.{numbered, flag_number, indicator_number, FormAs};
 
-use crate::text::{ByteRun, Num, bytes_run, ends, is_charmap, join, plus, skip, unicode, word};
+use crate::lookup::Use;
+use crate::text::{bytes_run, ends, is_charmap, join, plus, skip, unicode, word};
 
-// A line after CHARMAP, by form. `Line`: a mapping, with its code point, its code (the first four bytes), the count of
-// bytes and the indicator. `Reserved`: well-formed, not built.
+// A mapping: its code point, the first four bytes of its code, the count of bytes, and how it is used.
+// No `Code`: a line may have more than four bytes, and `len` counts them all.
+#[derive(Clone, Copy)]
+pub struct MappingLine {
+    pub point: u32,
+    pub bits: u32,
+    pub len: usize,
+    pub used: Use,
+}
+
+// A line of some form after CHARMAP. `Reserved`: well-formed, not built.
 #[derive(Clone, Copy)]
 pub enum Mapped {
-    NoForm,
     Reserved,
     Blank,
     End,
-    Line(u32, u32, usize, u32),
+    Line(MappingLine),
 }
 
-// The code points after the first: 1 if there is one, and the place after them.
-fn more_points(s: &[u8], at: usize) -> Num
-    requires { at ≤ length s.now }
+// Whether code points follow the first, and the place after them.
+// Text and place stay two arguments, as the definitions of the readers speak of both.
+fn more_points(s: &[u8], at: usize) -> Option<(bool, usize)>
     ensures { let text = s.now in
-        (result ≡ points_more (length text) text 0 at (unicode_at text (join_at text at)))
-        × NumAtMost 1 result at (length text) }
+        numbered flag_number result ≡ points_more (length text) text 0 at (unicode_at text (join_at text at)) }
 {
-    let mut i = at;
-    let mut several: u32 = 0;
-    loop {
-        let p = plus(s, skip(s, i));
-        let n = unicode(s, join(s, i));
-        match n {
-            Num::Bad => {
-                if p {
-                    return Num::Bad;
-                }
-                return Num::Val(several, i);
-            }
-            Num::Val(_, e) => {
-                several = 1;
-                i = e;
-            }
-        }
+    let mut end = at;
+    let mut several = false;
+    while let Some((_, next)) = unicode(s, join(s, end)) {
+        several = true;
+        end = next;
     }
+    if plus(s, skip(s, end)) {
+        return None;
+    }
+    Some((several, end))
 }
 
-// The indicator `|0` to `|4` that ends a line, or none.
-fn indicator(s: &[u8], at: usize) -> Num
-    ensures { result ≡ indicator_at s.now at }
+// How a line is used by the indicator that ends it: `|0` to `|3`, or `|0` where none stands; none for `|4`.
+#[tactic(auto, unfolding(crate::specs::Mapping::indicator_at))]
+fn indicator(s: &[u8], at: usize) -> Option<(Option<Use>, usize)>
+    ensures { numbered indicator_number result ≡ indicator_at s.now at }
 {
     if ends(s, at) {
-        return Num::Val(0, at);
+        return Some((Some(Use::RoundTrip), at));
     }
-    if s[at] != b'|' {
-        return Num::Bad;
+    let [b'|', digit, ..] = s.get(at..)? else {
+        return None;
+    };
+    let used = match *digit {
+        b'0' => Some(Use::RoundTrip),
+        b'1' => Some(Use::Fallback),
+        b'2' => Some(Use::Substituted),
+        b'3' => Some(Use::ReverseFallback),
+        b'4' => None,
+        _ => return None,
+    };
+    if ends(s, skip(s, at + 2)) {
+        Some((used, at + 2))
+    } else {
+        None
     }
-    let b = at + 1;
-    if s.len() <= b {
-        return Num::Bad;
+}
+
+// The indicator of a line that is used so.
+pub(crate) fn indicator_of(used: Use) -> u32
+    ensures { (result ≡ indicator_of used) × (result ≤ 3) }
+{
+    match used {
+        Use::RoundTrip => 0,
+        Use::Fallback => 1,
+        Use::Substituted => 2,
+        Use::ReverseFallback => 3,
     }
-    let d = s[b];
-    if d < b'0' {
-        return Num::Bad;
-    }
-    if d <= b'4' {
-        if ends(s, skip(s, at + 2)) {
-            return Num::Val(d as u32 - 48, at + 2);
-        }
-    }
-    Num::Bad
 }
 
 // A line whose first token stands at p: code point, bytes, indicator.
-fn mapping_line(s: &[u8], p: usize) -> Mapped
+fn mapping_line(s: &[u8], p: usize) -> Option<Mapped>
     ensures { let text = s.now in
-        (result ≡ coded_line (mapping_form text (unicode_at text p)))
-        × MappedFits result (length text) }
+        FormAs result (mapping_form text (unicode_at text p)) × MappedFits result (length text) }
 {
-    let Num::Val(u, q) = unicode(s, p) else {
-        return Mapped::NoForm;
-    };
-    let Num::Val(several, e) = more_points(s, q) else {
-        return Mapped::NoForm;
-    };
-    let ByteRun::Bytes(bits, len, joined, t) = bytes_run(s, e) else {
-        return Mapped::NoForm;
-    };
-    let Num::Val(d, _) = indicator(s, skip(s, t)) else {
-        return Mapped::NoForm;
-    };
-    if several == 1 {
-        return Mapped::Reserved;
+    let (point, q) = unicode(s, p)?;
+    let (several, q) = more_points(s, q)?;
+    let run = bytes_run(s, q)?;
+    let (used, _) = indicator(s, skip(s, run.end))?;
+    match used {
+        Some(used) if !several && !run.joined => Some(Mapped::Line(MappingLine {
+            point,
+            bits: run.bits,
+            len: run.len,
+            used,
+        })),
+        _ => Some(Mapped::Reserved),
     }
-    if joined {
-        return Mapped::Reserved;
-    }
-    if d == 4 {
-        return Mapped::Reserved;
-    }
-    Mapped::Line(u, bits, len, d)
 }
 
 // Whether `END CHARMAP` stands at p, alone.
+#[tactic(auto, using(crate::proofs::MappingLaws::charmap_none), unfolding(crate::specs::Mapping::is_end))]
 fn is_end(s: &[u8], p: usize) -> bool
     requires { p ≤ length s.now }
     ensures { result ≡ is_end s.now p }
 {
-    if word(s, p, b"END") {
-        let e = p + 3;
-        let q = skip(s, e);
-        if q == e {
-            return false;
-        }
-        if s.len() <= q {
-            return false;
-        }
-        return is_charmap(s, q);
-    }
-    false
+    let q = skip(s, p + 3);
+    word(s, p, b"END") && q != p + 3 && q < s.len() && is_charmap(s, q)
 }
 
 // A line between CHARMAP and END CHARMAP.
-pub(crate) fn read_mapping(s: &[u8]) -> Mapped
-    ensures { (result ≡ coded_line (body_line_of s.now)) × MappedFits result (length s.now) }
+#[tactic(auto, using(crate::proofs::TextLaws::ends_inside), unfolding(crate::specs::Mapping::body_line_of))]
+pub(crate) fn read_mapping(s: &[u8]) -> Option<Mapped>
+    ensures { FormAs result (body_line_of s.now) × MappedFits result (length s.now) }
 {
     let p = skip(s, 0);
     if ends(s, p) {
-        return Mapped::Blank;
+        return Some(Mapped::Blank);
     }
     if s[p] == b'<' {
         return mapping_line(s, p);
     }
     if is_charmap(s, p) {
-        return Mapped::Reserved;
+        return Some(Mapped::Reserved);
     }
     if is_end(s, p) {
-        return Mapped::End;
+        return Some(Mapped::End);
     }
-    Mapped::NoForm
+    None
 }
 
 // A line after END CHARMAP.
-pub(crate) fn read_last(s: &[u8]) -> Mapped
-    ensures { result ≡ coded_line (after_end_of s.now) }
+#[tactic(auto, using(crate::proofs::TextLaws::ends_inside), unfolding(crate::specs::Mapping::after_end_of))]
+pub(crate) fn read_last(s: &[u8]) -> Option<Mapped>
+    ensures { FormAs result (after_end_of s.now) }
 {
     let p = skip(s, 0);
     if ends(s, p) {
-        return Mapped::Blank;
+        return Some(Mapped::Blank);
     }
     if is_charmap(s, p) {
-        return Mapped::Reserved;
+        return Some(Mapped::Reserved);
     }
-    Mapped::NoForm
+    None
 }

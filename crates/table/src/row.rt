@@ -1,289 +1,266 @@
 // State rows, the values of icu:state: reading one entry and the entries of a row, what 14 and 15 refuse in them,
 // and writing a row into the lent states.
-ghost use Rattle.std.specs.Prelude.{◌≡◌, map, ◌-◌, ◌≤◌, ◌<◌, length, take, drop, replicate};
+ghost use Rattle.std.specs.Prelude.{◌≡◌, map, ◌-◌, ◌≤◌, ◌<◌, length, take, drop, replicate, Some};
 ghost use Rattle.table.specs.Limits.{limits, needed};
 ghost use Rattle.table.specs.Cells.{ends, cell_number};
-ghost use Rattle.table.specs.Text.{number_at};
-ghost use Rattle.table.specs.Row.{to_at, next_at, letter_at, end_at, entry_at, entries_at, well_at, unbuilt_entry};
-ghost use Rattle.table.specs.Row.{over_entry, meaning, overwritten, comma_at, open_at, entries_of, row_of};
-ghost use Rattle.lists.specs.Tests.{any_of};
-ghost use Rattle.table.specs.loops.Ranges.{Within, NumAtMost, Fits};
+ghost use Rattle.table.specs.Text.{number_at, skip_at};
+ghost use Rattle.table.specs.Row.{to_at, next_at, letter_at, end_at, entry_at, entries_at, unbuilt_entry, over_entry};
+ghost use Rattle.table.specs.Row.{meaning, overwritten, open_at, entries_of, row_of};
+ghost use Rattle.table.specs.loops.Coded.{sign_after, next_number, end_number, opener_number, numbered};
+ghost use Rattle.table.specs.loops.Coded.{entry_of, entry_read, forms_at, put_row};
 ghost use Rattle.lists.specs.Place.{fill_range};
-ghost use Rattle.table.specs.loops.Coded.{put_row};
 
-use crate::text::{Num, digit, skip, word};
+use crate::text::{hex_digit, skip, word};
 
-// One entry of a state row: bytes lo to hi, the next row (256 where none is named) and how it ends
-// (0 no point; after a point: 1 no letter, 2 `p`, 3 `u`, 4 `i`, 5 `s`).
+// What a code means that ends at an entry with a point: by no letter, or by `p`, `u`, `i` or `s`.
+#[derive(Clone, Copy)]
+pub enum EntryEnd {
+    Plain,
+    Any,
+    Unassigned,
+    Illegal,
+    Shift,
+}
+
+// One entry of a state row: the bytes lo to hi, the next row if one is named, and how a code ends if a point says so.
 #[derive(Clone, Copy)]
 pub struct Entry {
-    pub lo: u32,
-    pub hi: u32,
-    pub next: u32,
-    pub kind: u32,
+    pub lo: u8,
+    pub hi: u8,
+    pub next: Option<u8>,
+    pub end: Option<EntryEnd>,
 }
 
-// An entry with a comma after it, the last entry, or text of no such form.
+// The word that may open a row.
 #[derive(Clone, Copy)]
-pub enum ReadEntry {
-    More(Entry, usize),
-    Last(Entry),
-    Wrong,
+pub enum OpeningWord {
+    Initial,
+    Surrogates,
 }
 
-// The entries of a row's text: whether all have the form, whether 14 is given for one, whether 15 is.
+// The entries of a row's text: whether 14 is given for one, whether 15 is.
 #[derive(Clone, Copy)]
 pub struct Forms {
-    pub well: bool,
     pub later: bool,
     pub over: bool,
 }
 
 // One or two hexadecimal digits.
-fn number(s: &[u8], at: usize) -> Num
-    ensures { (result ≡ number_at s.now at) × Within result at (length s.now) }
+// Text and place stay two arguments, as the definitions of the readers speak of both.
+#[tactic(auto, unfolding(crate::specs::Text::number_at))]
+fn number(s: &[u8], at: usize) -> Option<(u8, usize)>
+    ensures { result ≡ number_at s.now at }
 {
-    if s.len() <= at {
-        return Num::Bad;
+    let high = hex_digit(*s.get(at)?)?;
+    let next = at + 1;
+    if s.len() <= next {
+        return Some((high as u8, next));
     }
-    let x = digit(s[at]);
-    if 16 <= x {
-        return Num::Bad;
+    match hex_digit(s[next]) {
+        Some(low) => Some(((high * 16 + low) as u8, at + 2)),
+        None => Some((high as u8, next)),
     }
-    let b = at + 1;
-    if s.len() <= b {
-        return Num::Val(x, b);
+}
+
+// The place after a sign, if it is the next token.
+fn after(s: &[u8], q: usize, sign: u8) -> Option<usize>
+    ensures { result ≡ sign_after s.now q sign }
+{
+    let p = skip(s, q);
+    if p < s.len() && s[p] == sign {
+        Some(p + 1)
+    } else {
+        None
     }
-    let y = digit(s[b]);
-    if 16 <= y {
-        return Num::Val(x, b);
-    }
-    Num::Val(x * 16 + y, at + 2)
 }
 
 // `- number`, or the byte itself.
-fn to_part(s: &[u8], from: u32, q: usize) -> Num
-    requires { (from < 256) × (q ≤ length s.now) }
-    ensures { (result ≡ to_at s.now from q) × NumAtMost 255 result q (length s.now) }
+#[tactic(auto, unfolding(crate::specs::Row::to_at))]
+fn to_part(s: &[u8], from: u8, q: usize) -> Option<(u8, usize)>
+    ensures { result ≡ to_at s.now from q }
 {
-    let p = skip(s, q);
-    if s.len() <= p {
-        return Num::Val(from, q);
+    match after(s, q, b'-') {
+        Some(p) => number(s, skip(s, p)),
+        None => Some((from, q)),
     }
-    if s[p] != b'-' {
-        return Num::Val(from, q);
-    }
-    let m = skip(s, p + 1);
-    number(s, m)
 }
 
-// `: number`, or 256 for none.
-fn next_part(s: &[u8], q: usize) -> Num
-    requires { q ≤ length s.now }
-    ensures { (result ≡ next_at s.now q) × NumAtMost 256 result q (length s.now) }
+// `: number`, or no next row.
+#[tactic(auto, unfolding(crate::specs::Row::next_at))]
+fn next_part(s: &[u8], q: usize) -> Option<(Option<u8>, usize)>
+    ensures { numbered next_number result ≡ next_at s.now q }
 {
-    let p = skip(s, q);
-    if s.len() <= p {
-        return Num::Val(256, q);
+    match after(s, q, b':') {
+        Some(p) => {
+            let (row, q) = number(s, skip(s, p))?;
+            Some((Some(row), q))
+        }
+        None => Some((None, q)),
     }
-    if s[p] != b':' {
-        return Num::Val(256, q);
-    }
-    let m = skip(s, p + 1);
-    number(s, m)
 }
 
-// The letter after a point: 2 to 5, or 1 for none, with the place after the point.
-fn letter(s: &[u8], back: usize, at: usize) -> Num
-    requires { (back ≤ at) × (back ≤ length s.now) }
-    ensures { (result ≡ letter_at s.now back at) × NumAtMost 5 result back (length s.now) }
+// The letter after a point or none, with the place after it or after the point.
+#[tactic(auto, unfolding(crate::specs::Row::letter_at))]
+fn letter(s: &[u8], back: usize) -> (EntryEnd, usize)
+    ensures { Some (end_number (Some result.0), result.1) ≡ letter_at s.now back (skip_at s.now back) }
 {
-    if s.len() <= at {
-        return Num::Val(1, back);
-    }
-    let b = s[at];
-    if b == b'p' {
-        return Num::Val(2, at + 1);
-    }
-    if b == b'u' {
-        return Num::Val(3, at + 1);
-    }
-    if b == b'i' {
-        return Num::Val(4, at + 1);
-    }
-    if b == b's' {
-        return Num::Val(5, at + 1);
-    }
-    Num::Val(1, back)
-}
-
-// `.` and a letter or nothing; 0 for no point.
-fn end_part(s: &[u8], q: usize) -> Num
-    requires { q ≤ length s.now }
-    ensures { (result ≡ end_at s.now q) × NumAtMost 5 result q (length s.now) }
-{
-    let p = skip(s, q);
-    if s.len() <= p {
-        return Num::Val(0, q);
-    }
-    if s[p] != b'.' {
-        return Num::Val(0, q);
-    }
-    let back = p + 1;
     let at = skip(s, back);
-    letter(s, back, at)
+    if s.len() <= at {
+        return (EntryEnd::Plain, back);
+    }
+    match s[at] {
+        b'p' => (EntryEnd::Any, at + 1),
+        b'u' => (EntryEnd::Unassigned, at + 1),
+        b'i' => (EntryEnd::Illegal, at + 1),
+        b's' => (EntryEnd::Shift, at + 1),
+        _ => (EntryEnd::Plain, back),
+    }
 }
 
-// One entry of a row, and whether a comma follows.
-fn read_entry(s: &[u8], at: usize) -> ReadEntry
-    ensures { (result ≡ entry_at s.now at) × Fits result at (length s.now) }
+// `.` and a letter or nothing, or no point.
+#[tactic(auto, unfolding(crate::specs::Row::end_at))]
+fn end_part(s: &[u8], q: usize) -> (Option<EntryEnd>, usize)
+    ensures { Some (end_number result.0, result.1) ≡ end_at s.now q }
 {
-    let p = skip(s, at);
-    let a = number(s, p);
-    let Num::Val(lo, q1) = a else {
-        return ReadEntry::Wrong;
-    };
-    let b = to_part(s, lo, q1);
-    let Num::Val(hi, q2) = b else {
-        return ReadEntry::Wrong;
-    };
-    let n = next_part(s, q2);
-    let Num::Val(next, q3) = n else {
-        return ReadEntry::Wrong;
-    };
-    let k = end_part(s, q3);
-    let Num::Val(kind, q4) = k else {
-        return ReadEntry::Wrong;
-    };
-    let q5 = skip(s, q4);
-    let e = Entry { lo, hi, next, kind };
-    if s.len() <= q5 {
-        return ReadEntry::Last(e);
+    match after(s, q, b'.') {
+        Some(back) => {
+            let (end, q) = letter(s, back);
+            (Some(end), q)
+        }
+        None => (None, q),
     }
-    if s[q5] == b',' {
-        return ReadEntry::More(e, q5 + 1);
+}
+
+// One entry of a row, and where the next one begins if a comma follows.
+#[tactic(auto, unfolding(crate::specs::Row::entry_at, crate::specs::Row::entry_sep))]
+fn read_entry(s: &[u8], at: usize) -> Option<(Entry, Option<usize>)>
+    ensures { entry_read result ≡ entry_at s.now at }
+{
+    let (lo, q) = number(s, skip(s, at))?;
+    let (hi, q) = to_part(s, lo, q)?;
+    let (next, q) = next_part(s, q)?;
+    let (end, q) = end_part(s, q);
+    let entry = Entry { lo, hi, next, end };
+    if s.len() <= skip(s, q) {
+        return Some((entry, None));
     }
-    ReadEntry::Wrong
+    let next = after(s, q, b',')?;
+    Some((entry, Some(next)))
 }
 
 // 14 of an entry: letter `s`, or an end with a next row other than 0.
+#[tactic(auto, unfolding(crate::specs::Row::unbuilt_entry))]
 fn unbuilt_entry(e: Entry) -> bool
-    ensures { result ≡ unbuilt_entry e }
+    ensures { result ≡ unbuilt_entry (entry_of e) }
 {
-    if e.kind == 5 {
-        return true;
+    match (e.end, e.next) {
+        (Some(EntryEnd::Shift), _) => true,
+        (Some(_), Some(row)) => row != 0,
+        _ => false,
     }
-    if e.kind == 0 {
-        return false;
-    }
-    if e.next == 256 {
-        return false;
-    }
-    if e.next == 0 {
-        return false;
-    }
-    true
 }
 
 // 15 of an entry: a falling range, or a next row over 7f.
+#[tactic(auto, unfolding(crate::specs::Row::over_entry))]
 fn over_entry(e: Entry) -> bool
-    ensures { result ≡ over_entry e }
+    ensures { result ≡ over_entry (entry_of e) }
 {
-    if e.hi < e.lo {
-        return true;
-    }
-    if e.next == 256 {
-        return false;
-    }
-    127 < e.next
+    e.hi < e.lo || e.next.is_some_and(|row| 127 < row)
 }
 
 // The number that the states keep for each byte of an entry.
+// No `From`: a cell's number is no other form of an entry.
+#[tactic(auto, unfolding(crate::specs::Row::meaning))]
 fn mean(e: Entry) -> u16
-    requires { e.next ≤ 256 }
-    ensures { result ≡ cell_number (meaning e) }
+    ensures { result ≡ cell_number (meaning (entry_of e)) }
 {
-    if e.kind == 0 {
-        if e.next == 256 {
-            return 1;
-        }
-        return 16 + e.next as u16;
+    match e.end {
+        None => match e.next {
+            None => 1,
+            Some(row) => 16 + row as u16,
+        },
+        Some(EntryEnd::Plain) => 1,
+        Some(EntryEnd::Any) => 2,
+        Some(EntryEnd::Unassigned) => 3,
+        Some(EntryEnd::Illegal | EntryEnd::Shift) => 0,
     }
-    if e.kind == 1 {
-        return 1;
-    }
-    if e.kind == 2 {
-        return 2;
-    }
-    if e.kind == 3 {
-        return 3;
-    }
-    0
 }
 
-// The entries from a place on: whether all have the form, whether 14 is given for one, whether 15 is.
-pub(crate) fn row_forms(s: &[u8], at: usize) -> Forms
-    ensures { let columns = entries_at s.now at in
-        (result.well ≡ well_at s.now at)
-        × (result.later ≡ any_of unbuilt_entry columns)
-        × (result.over ≡ any_of over_entry columns) }
-{
-    let mut i = at;
-    let mut n: usize = 0;
-    let mut later = false;
-    let mut over = false;
-    loop {
-        let x = read_entry(s, i);
-        match x {
-            ReadEntry::Wrong => return Forms {
-                well: false,
-                later: later,
-                over: over,
-            },
-            ReadEntry::Last(e) => {
-                return Forms {
-                    well: true,
-                    later: later | unbuilt_entry(e),
-                    over: over | over_entry(e),
-                };
+// The entries from a place on, each as it is read; none where text of no such form stands, and nothing after.
+#[derive(Drop)]
+struct Entries<'a> {
+    text: &'a [u8],
+    at: Option<usize>,
+}
+
+impl<'a> Iterator for Entries<'a> {
+    ghost use Rattle.table.specs.loops.Coded.{GivesEntry, entries_most};
+
+    type Item = Option<Entry>;
+
+    ghost next_gives = { GivesEntry };
+
+    ghost remaining = { entries_most };
+
+    fn next(&mut self) -> Option<Option<Entry>> {
+        let at = self.at?;
+        match read_entry(self.text, at) {
+            Some((entry, next)) => {
+                self.at = next;
+                Some(Some(entry))
             }
-            ReadEntry::More(e, q) => {
-                later = later | unbuilt_entry(e);
-                over = over | over_entry(e);
-                n += 1;
-                i = q;
+            None => {
+                self.at = None;
+                Some(None)
             }
         }
     }
 }
 
-// The comma after an opening word of number k.
-fn comma(s: &[u8], k: u32, at: usize) -> Num
-    ensures { result ≡ comma_at s.now k at }
+// The entries from a place on, if all have the form: whether 14 is given for one, whether 15 is.
+#[tactic(auto, unfolding(lists::specs::Tests::any_of))]
+pub(crate) fn row_forms(s: &[u8], at: usize) -> Option<Forms>
+    ensures { result ≡ forms_at s.now at }
 {
-    if s.len() <= at {
-        return Num::Bad;
+    let mut forms = Forms {
+        later: false,
+        over: false,
+    };
+    for entry in (Entries {
+        text: s,
+        at: Some(at),
+    }) {
+        let e = entry?;
+        forms.later |= unbuilt_entry(e);
+        forms.over |= over_entry(e);
     }
-    if s[at] != b',' {
-        return Num::Bad;
-    }
-    Num::Val(k, at + 1)
+    Some(forms)
 }
 
-// The word that may open a row (1 `initial`, 2 `surrogates`, 0 none), and where the entries begin.
-pub(crate) fn opener(s: &[u8], p: usize) -> Num
+// The word that may open a row, and where the entries begin.
+#[tactic(auto, unfolding(crate::specs::Row::open_at, crate::specs::Row::comma_at))]
+pub(crate) fn opener(s: &[u8], p: usize) -> Option<(Option<OpeningWord>, usize)>
     requires { p ≤ length s.now }
-    ensures { result ≡ open_at s.now p }
+    ensures { numbered opener_number result ≡ open_at s.now p }
 {
     if word(s, p, b"initial") {
-        let a = skip(s, p + 7);
-        return comma(s, 1, a);
+        Some((Some(OpeningWord::Initial), after(s, p + 7, b',')?))
+    } else if word(s, p, b"surrogates") {
+        Some((Some(OpeningWord::Surrogates), after(s, p + 10, b',')?))
+    } else {
+        Some((None, p))
     }
-    if word(s, p, b"surrogates") {
-        let a = skip(s, p + 10);
-        return comma(s, 2, a);
+}
+
+// The number of the word that opens a row; 0 for none.
+pub(crate) fn opener_number(word: Option<OpeningWord>) -> u32
+    ensures { result ≡ opener_number word }
+{
+    match word {
+        None => 0,
+        Some(OpeningWord::Initial) => 1,
+        Some(OpeningWord::Surrogates) => 2,
     }
-    Num::Val(0, p)
 }
 
 // Writes v into the places `from` to `to`; a falling range has none.
@@ -291,35 +268,26 @@ fn fill_range(row: &mut [u16], from: usize, to: usize, v: u16)
     requires { to < length row.old }
     ensures { row.new ≡ fill_range from to v row.old }
 {
-    let mut i = from;
-    while i <= to {
-        row[i] = v;
-        i += 1;
+    if from <= to {
+        row[from..=to].fill(v);
     }
 }
 
 // Writes the entries from a place on into a row; a later entry overwrites an earlier one.
+#[tactic(auto, unfolding(crate::specs::Row::overwritten))]
 fn overwrite(s: &[u8], at: usize, row: &mut [u16])
     requires { 256 ≤ length row.old }
     ensures { let columns = entries_at s.now at in
         row.new ≡ overwritten (λ e. cell_number (meaning e)) columns row.old }
 {
-    let mut i = at;
-    let mut n: usize = 0;
-    loop {
-        let x = read_entry(s, i);
-        match x {
-            ReadEntry::Wrong => return,
-            ReadEntry::Last(e) => {
-                fill_range(row, e.lo as usize, e.hi as usize, mean(e));
-                return;
-            }
-            ReadEntry::More(e, q) => {
-                fill_range(row, e.lo as usize, e.hi as usize, mean(e));
-                n += 1;
-                i = q;
-            }
-        }
+    for entry in (Entries {
+        text: s,
+        at: Some(at),
+    }) {
+        let Some(e) = entry else {
+            return;
+        };
+        fill_range(row, e.lo as usize, e.hi as usize, mean(e));
     }
 }
 
@@ -328,17 +296,13 @@ fn take_row(s: &[u8], row: &mut [u16])
     requires { length row.old ≡ 256 }
     ensures { row.new ≡ map cell_number (row_of (entries_of s.now)) }
 {
-    fill_range(row, 0, 255, 0);
+    row.fill(0);
     let p = skip(s, 0);
     if s.len() <= p {
         return;
     }
-    let o = opener(s, p);
-    match o {
-        Num::Bad => return,
-        Num::Val(_, q) => {
-            overwrite(s, q, row);
-        }
+    if let Some((_, q)) = opener(s, p) {
+        overwrite(s, q, row);
     }
 }
 
@@ -354,9 +318,10 @@ pub(crate) fn put_row(line: &[u8], q: usize, e: usize, states: &mut [u16], r: us
 }
 
 // Writes the row `0-ff` of an SBCS table without rows.
+// The states are lent, of any length, so that they are enough is asked.
 pub(crate) fn full_row(states: &mut [u16])
     requires { needed limits ≤ length states.old }
     ensures { states.new ≡ put_row 0 (replicate 256 (cell_number ends)) states.old }
 {
-    fill_range(states, 0, 255, 1);
+    states[..256].fill(1);
 }

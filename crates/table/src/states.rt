@@ -1,14 +1,15 @@
 // State rows in a lent slice of 16-bit numbers: the step of a byte, the cutting of an input into codes, and the test of
 // all rows.
 ghost use Rattle.std.specs.Prelude.{if◌then◌else◌, ◌≡◌, true, false, ℕ, ◌+◌, ◌-◌, ◌*◌};
-ghost use Rattle.std.specs.Prelude.{◌<◌, ◌≤◌, ltb, length, get_or, take, drop};
+ghost use Rattle.std.specs.Prelude.{◌<◌, ◌≤◌, ltb, length, get_or, take, drop, Some, None, fold};
+ghost use Rattle.std.specs.Int.Bits.{bit_or};
 ghost use Rattle.table.specs.Limits.{limits, needed};
 ghost use Rattle.table.specs.States.{step_at, broken_length, cut_from, cut_of, end_kind};
 ghost use Rattle.table.specs.Codes.{unpacked, bytes_of};
 ghost use Rattle.table.specs.Rules.{t3};
 ghost use Rattle.lists.specs.Tests.{all_of, zeros};
 ghost use Rattle.table.specs.Valid.{state_ok, states_ok};
-ghost use Rattle.table.specs.loops.LeadMarks.{lead_marks, no_marks, marked, marked_within};
+ghost use Rattle.table.specs.loops.LeadMarks.{lead_marks, marked, marked_within};
 ghost use Rattle.lists.specs.Pick.{◌and◌};
 
 // The cells of a row.
@@ -24,18 +25,30 @@ pub(crate) const NEEDED: usize = ROWS * ROW;
 const LEADS: u16 = 16;
 
 // A mark for each row and each row that it may lead on to.
+// Marks are arrays of fixed size: there is no heap.
 const MARKS: usize = ROWS * ROWS;
 
-// The step of a byte in a row. A code ends as 1 (assigned, up to U+FFFF), 2 (`p`: any code point) or 3 (`u`:
-// unassigned).
+// How a complete code ends.
+#[derive(Clone, Copy)]
+pub enum EndKind {
+    // Assigned, up to U+FFFF.
+    Assigned,
+    // `p`: any code point.
+    AnyPoint,
+    // `u`: legal, but unassigned.
+    Unassigned,
+}
+
+// The step of a byte in a row.
 #[derive(Clone, Copy)]
 pub enum Step {
     Illegal,
-    Ends(u16),
+    Ends(EndKind),
     Leads(u16),
 }
 
-// Why a sequence is no complete code.
+// Why a sequence is no complete code. Like `Cut` it is no Result: to be stopped is an answer as documents 01 and 02 ask
+// for it (`cut_of`), and no failure.
 #[derive(Clone, Copy)]
 pub enum CutStop {
     // The input ends inside the sequence. Put more bytes after it and try again.
@@ -48,7 +61,7 @@ pub enum CutStop {
 // The sequence at the front of an input: a complete code, with its length and how it ends, or none.
 #[derive(Clone, Copy)]
 pub enum Cut {
-    Complete(usize, u16),
+    Complete(usize, EndKind),
     Stopped(CutStop),
 }
 
@@ -56,36 +69,37 @@ pub enum Cut {
 pub const TOP: u32 = 16777216;
 
 // A byte string of at most four bytes: the first is the highest byte of `bits`, unused bits are zeros. As a position,
-// no bytes means the beginning.
-#[derive(Clone, Copy)]
+// no bytes means the beginning. (Any numbers may come, so it has no invariant: look-ups answer on all.)
+#[derive(Clone, Copy, PartialEq, Eq)]
 pub struct Code {
     pub bits: u32,
     pub len: u32,
 }
 
 // The cell of a row at a byte: 0 where the row does not exist.
+// 0 and no Option: `step_at` (specs) reads 0 past the end, which is no code.
 fn cell_number(states: &[u16], row: u16, b: u8) -> u16
     ensures { result ≡ get_or states.now (row * 256 + b) 0 }
 {
-    let i = (row as usize) * ROW + (b as usize);
-    if i < states.len() { states[i] } else { 0 }
+    states
+        .get(row as usize * ROW + b as usize)
+        .copied()
+        .unwrap_or(0)
 }
 
 // The step of a byte in a row.
 pub fn step_at(states: &[u16], row: u16, b: u8) -> Step
     ensures { result ≡ step_at states.now row b }
 {
-    let e = cell_number(states, row, b);
-    if LEADS <= e {
-        return Step::Leads(e - LEADS);
+    // Numbers that are kept free have an arm of their own: conversions are slower with an arm for all others last.
+    match cell_number(states, row, b) {
+        0 => Step::Illegal,
+        1 => Step::Ends(EndKind::Assigned),
+        2 => Step::Ends(EndKind::AnyPoint),
+        3 => Step::Ends(EndKind::Unassigned),
+        4..=15 => Step::Illegal,
+        e => Step::Leads(e - LEADS),
     }
-    if 4 <= e {
-        return Step::Illegal;
-    }
-    if e == 0 {
-        return Step::Illegal;
-    }
-    Step::Ends(e)
 }
 
 // The length of an illegal sequence from the row `first` on, which byte b broke behind k others.
@@ -101,6 +115,7 @@ fn broken_length(states: &[u16], first: u16, b: u8, k: usize) -> usize
 }
 
 // The rest of a sequence that began in the row `first`, and whose first `from` bytes led on to a row.
+// Text and place stay two arguments, as `cut_from` speaks of both.
 fn cut_on(states: &[u16], first: u16, row: u16, s: &[u8], from: usize) -> Cut
     requires { from ≤ 4 }
     ensures { let step = step_at states.now in
@@ -108,6 +123,7 @@ fn cut_on(states: &[u16], first: u16, row: u16, s: &[u8], from: usize) -> Cut
 {
     let mut at_row = row;
     let mut at = from;
+    // No `for`: the rest of the bytes may end before the four do, and the row changes with each.
     while at < 4 {
         if s.len() <= at {
             return Cut::Stopped(CutStop::CutShort);
@@ -116,8 +132,8 @@ fn cut_on(states: &[u16], first: u16, row: u16, s: &[u8], from: usize) -> Cut
             Step::Illegal => {
                 return Cut::Stopped(CutStop::Illegal(broken_length(states, first, s[at], at)));
             }
-            Step::Ends(e) => {
-                return Cut::Complete(at + 1, e);
+            Step::Ends(kind) => {
+                return Cut::Complete(at + 1, kind);
             }
             Step::Leads(n) => {
                 at_row = n;
@@ -137,39 +153,40 @@ pub fn cut_one(states: &[u16], row: u16, s: &[u8]) -> Cut
     }
     match step_at(states, row, s[0]) {
         Step::Illegal => Cut::Stopped(CutStop::Illegal(1)),
-        Step::Ends(e) => Cut::Complete(1, e),
+        Step::Ends(kind) => Cut::Complete(1, kind),
         Step::Leads(n) => cut_on(states, row, n, s, 1),
     }
 }
 
-// How a code's last byte, the highest of 32 bits, ends it from a row on, or 0.
-pub(crate) fn last_kind(states: &[u16], row: u16, bits: u32) -> u16
+// How a code's last byte, the highest of 32 bits, ends it from a row on.
+pub(crate) fn last_kind(states: &[u16], row: u16, bits: u32) -> Option<EndKind>
     ensures { result ≡ end_kind (step_at states.now) row (unpacked 1 bits) }
 {
     match step_at(states, row, (bits / TOP) as u8) {
-        Step::Illegal => 0,
-        Step::Ends(e) => e,
-        Step::Leads(_) => 0,
+        Step::Illegal => None,
+        Step::Ends(kind) => Some(kind),
+        Step::Leads(_) => None,
     }
 }
 
-// How a code ends from a row on, or 0 where it is no complete code.
-pub fn end_kind(states: &[u16], row: u16, code: Code) -> u16
+// How a code ends from a row on, where it is a complete code.
+pub fn end_kind(states: &[u16], row: u16, code: Code) -> Option<EndKind>
     ensures { result ≡ end_kind (step_at states.now) row (bytes_of code) }
 {
     let mut at_row = row;
     let mut bits = code.bits;
     let mut left = code.len;
+    // No `for`: each byte is taken out of the bits as it is passed.
     while 0 < left {
         match step_at(states, at_row, (bits / TOP) as u8) {
             Step::Illegal => {
-                return 0;
+                return None;
             }
-            Step::Ends(e) => {
+            Step::Ends(kind) => {
                 if left == 1 {
-                    return e;
+                    return Some(kind);
                 }
-                return 0;
+                return None;
             }
             Step::Leads(n) => {
                 at_row = n;
@@ -178,72 +195,49 @@ pub fn end_kind(states: &[u16], row: u16, code: Code) -> u16
             }
         }
     }
-    0
+    None
 }
 
-// Whether the cells of the rows are of the form and keep T2; if so, `marks` says which row leads on to which, else it
-// marks none.
-#[derive(Clone, Copy)]
-struct Marks {
-    ok: bool,
-    marks: [bool; MARKS],
-}
-
-// One pass over the cells of the rows: each is read once.
-fn mark_rows(states: &[u16], rows: u32) -> Marks
+// Which row leads on to which, where the cells of the rows are of the form and keep T2. Each cell is read once.
+// Count and length are asked in a clause each: states and rows are lent, of any size.
+fn mark_rows(states: &[u16], rows: u32) -> Option<[bool; MARKS]>
     requires { (rows ≤ limits.rows) × (needed limits ≤ length states.now) }
     ensures { let ok = all_of (state_ok rows) (take (rows * 256) states.now) in
-        (result.ok ≡ ok)
-        × (result.marks ≡ (if ok then lead_marks rows (step_at states.now) else no_marks)) }
+        result ≡ (if ok then Some (lead_marks rows (step_at states.now)) else None) }
 {
-    let none = [false; MARKS];
-    let mut marks = none;
+    let mut marks = [false; MARKS];
     let count = rows as usize;
-    let mut i = 0;
-    while i < count * ROW {
+    for i in 0..count * ROW {
         let e = states[i];
         if e <= 3 {
-            i += 1;
             continue;
         }
         if e <= LEADS {
-            return Marks {
-                ok: false,
-                marks: none,
-            };
+            return None;
         }
         let k = (e - LEADS) as usize;
         if count <= k {
-            return Marks {
-                ok: false,
-                marks: none,
-            };
+            return None;
         }
         marks[i / ROW * ROWS + k] = true;
-        i += 1;
     }
-    Marks {
-        ok: true,
-        marks: marks,
-    }
+    Some(marks)
 }
 
-// Whether the needed numbers from a place on are zeros. It reads them all, so that the compiler can vectorise it.
+// All bits that are set in some number. It reads them all, so that the compiler can vectorise it.
+fn any_bits(s: &[u16]) -> u16
+    ensures { result ≡ fold bit_or 0 s.now }
+{
+    s.iter().fold(0, |any, &e| any | e)
+}
+
+// Whether the needed numbers from a place on are zeros.
+// Not one with `zeros_ok` in store.rt: that stops at the first that is no zero; this reads all, for speed.
 fn zeros_from(states: &[u16], from: usize) -> bool
     requires { (from ≤ needed limits) × (needed limits ≤ length states.now) }
     ensures { result ≡ zeros (take (needed limits - from) (drop from states.now)) }
 {
-    let mut ok = true;
-    let mut i = from;
-    while i < NEEDED {
-        if states[i] == 0 {
-            i += 1;
-            continue;
-        }
-        ok = false;
-        i += 1;
-    }
-    ok
+    any_bits(&states[from..NEEDED]) == 0
 }
 
 // For each row: whether `below` holds of every row that it leads on to. A row past the last leads nowhere.
@@ -253,19 +247,10 @@ fn level(marks: &[bool; MARKS], rows: u32, below: [bool; ROWS]) -> [bool; ROWS]
         (k : ℕ) → k < limits.rows → get_or result k false ≡ (if ltb k rows then holds k else true) }
 {
     let mut out = [true; ROWS];
-    let count = (rows as usize) * ROWS;
-    let mut j = 0;
-    while j < count {
-        if !marks[j] {
-            j += 1;
-            continue;
+    for j in 0..rows as usize * ROWS {
+        if marks[j] && !below[j % ROWS] {
+            out[j / ROWS] = false;
         }
-        if below[j % ROWS] {
-            j += 1;
-            continue;
-        }
-        out[j / ROWS] = false;
-        j += 1;
     }
     out
 }
@@ -276,10 +261,8 @@ fn marked_within(marks: &[bool; MARKS], rows: u32, max: u32) -> bool
     ensures { result ≡ marked_within rows marks.now max 0 }
 {
     let mut reach = [false; ROWS];
-    let mut d: u32 = 0;
-    while d < max {
+    for _ in 0..max {
         reach = level(marks, rows, reach);
-        d += 1;
     }
     reach[0]
 }
@@ -293,12 +276,8 @@ pub(crate) fn states_ok(states: &[u16], rows: u32, max: u32) -> bool
     if states.len() < NEEDED {
         return false;
     }
-    let found = mark_rows(states, rows);
-    if found.ok {
-        if zeros_from(states, (rows as usize) * ROW) {
-            let marks = found.marks;
-            return marked_within(&marks, rows, max);
-        }
-    }
-    false
+    let Some(marks) = mark_rows(states, rows) else {
+        return false;
+    };
+    zeros_from(states, rows as usize * ROW) && marked_within(&marks, rows, max)
 }

@@ -27,8 +27,7 @@ use Rattle.utf.specs.declared.utf8.Sequence.{Sequence}
 use Rattle.utf.specs.declared.utf8.Sequence.TheVariants as sequence
 use Rattle.utf.specs.declared.utf32.ByteOrder.{ByteOrder}
 use Rattle.utf.specs.declared.utf32.ByteOrder.TheVariants.{Big, Little}
-use Rattle.utf.specs.declared.utf32.Mark.{Mark}
-use Rattle.utf.specs.declared.utf32.Mark.TheVariants as mark
+use Rattle.std.specs.Prelude.{Option, Some}
 use Rattle.utf.proofs.Puts.{is_scalar⇒Scalar, Scalar⇒is_scalar}
 use Rattle.utf.proofs.Words.{length-encode_in, decode_in-short, decode_in-scalar, decode_in-illegal, word_in-encode_in, encode_in-word_in}
 
@@ -84,7 +83,7 @@ module _ (order : ByteOrder) where
         (λ t. pick-case (λ (q : Sequence). q ≡ sequence.Stopped stop.CutShort → length s < 4) (is_scalar (word_in order s)) _ _
         (λ u e. absurd (let z : ◌≡◌ {A = ℕ} 0 1 = cc in omega arith))
         (λ u e. absurd (let z : ◌≡◌ {A = ℕ} 0 1 = cc in omega arith))),
-    λ h. sym (decode_in-short order s h),
+    λ h. decode_in-short order s h,
   )
 
   pub utf32-illegal : (s : List ℕ)
@@ -142,25 +141,25 @@ mark-read : (q : Sequence) → is_mark q ≡ true → (n : ℕ) × (q ≡ sequen
 mark-read (sequence.Scalar c n) e = (n, ap (λ (x : ℕ). sequence.Scalar x n) (eqb-true c 0xfeff e))
 mark-read (sequence.Stopped w) e = absurd (clash e refl)
 
-pub mark_at-mark_in : (order : ByteOrder) (s : List ℕ) → mark_at (mark_in order ++ s) ≡ mark.Of order
+pub mark_at-mark_in : (order : ByteOrder) (s : List ℕ) → mark_at (mark_in order ++ s) ≡ Some order
 unfolding mark_at
 mark_at-mark_in Big s = simp (is_mark-mark_in Big s)
 mark_at-mark_in Little s = simp (is_mark-Little s, is_mark-mark_in Little s)
 
 -- a mark is U+FEFF, decoded in its order
-mark-decodes : (order : ByteOrder) (s : List ℕ) → mark_at s ≡ mark.Of order → (n : ℕ) × (decode_in order s ≡ sequence.Scalar 0xfeff n)
+mark-decodes : (order : ByteOrder) (s : List ℕ) → mark_at s ≡ Some order → (n : ℕ) × (decode_in order s ≡ sequence.Scalar 0xfeff n)
 unfolding mark_at
 mark-decodes order s =
-    pick-case (λ (m : Mark). m ≡ mark.Of order → (n : ℕ) × (decode_in order s ≡ sequence.Scalar 0xfeff n)) (is_mark (decode_in Big s)) _ _
+    pick-case (λ (m : Option ByteOrder). m ≡ Some order → (n : ℕ) × (decode_in order s ≡ sequence.Scalar 0xfeff n)) (is_mark (decode_in Big s)) _ _
     (λ t e. let o : Big ≡ order = cc in subst (λ (x : ByteOrder). (n : ℕ) × (decode_in x s ≡ sequence.Scalar 0xfeff n)) o (mark-read (decode_in Big s) t))
-    (λ t. pick-case (λ (m : Mark). m ≡ mark.Of order → (n : ℕ) × (decode_in order s ≡ sequence.Scalar 0xfeff n)) (is_mark (decode_in Little s)) _ _
+    (λ t. pick-case (λ (m : Option ByteOrder). m ≡ Some order → (n : ℕ) × (decode_in order s ≡ sequence.Scalar 0xfeff n)) (is_mark (decode_in Little s)) _ _
     (λ u e. let o : Little ≡ order = cc in subst (λ (x : ByteOrder). (n : ℕ) × (decode_in x s ≡ sequence.Scalar 0xfeff n)) o (mark-read (decode_in Little s) u))
     (λ u e. absurd (let z : ◌≡◌ {A = ℕ} 0 1 = cc in omega arith)))
 
-pub mark_at⇒long : (order : ByteOrder) (s : List ℕ) → mark_at s ≡ mark.Of order → 4 ≤ length s
+pub mark_at⇒long : (order : ByteOrder) (s : List ℕ) → mark_at s ≡ Some order → 4 ≤ length s
 mark_at⇒long order s e = let r = mark-decodes order s e in (decode_in⇒Read order s 0xfeff r.0 r.1).long
 
-pub mark-begins : (order : ByteOrder) (s : List ℕ) → All (λ b. b < 256) s → mark_at s ≡ mark.Of order → s ≡ mark_in order ++ drop 4 s
+pub mark-begins : (order : ByteOrder) (s : List ℕ) → All (λ b. b < 256) s → mark_at s ≡ Some order → s ≡ mark_in order ++ drop 4 s
 mark-begins order s bytes e =
     let r = mark-decodes order s e in
     utf32-decode-encode order s 0xfeff r.0 bytes r.1 ∙ ap (λ (n : ℕ). mark_in order ++ drop n s) (decode_in⇒Read order s 0xfeff r.0 r.1).count

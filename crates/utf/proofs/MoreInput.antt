@@ -10,7 +10,7 @@ use Rattle.lists.proofs.Cases.{pick_yes}
 use Rattle.lists.proofs.Between.{between-yes⁺}
 use Rattle.utf.specs.Utf8.{lead_of, trails_of, after_lead, decode_one}
 use Rattle.utf.specs.declared.utf8.Lead.{Lead}
-use Rattle.utf.specs.declared.utf8.Lead.TheVariants.{Of, Illegal}
+use Rattle.std.specs.Prelude.{Option, Some, None}
 use Rattle.utf.specs.declared.utf8.Sequence.{Sequence}
 use Rattle.utf.specs.declared.utf8.Sequence.TheVariants.{Scalar, Stopped}
 use Rattle.utf.specs.declared.utf8.Stop.TheVariants as stop
@@ -30,9 +30,9 @@ trails-same (suc k) lo hi v n [] t e = absurd (e refl)
 trails-same (suc k) lo hi v n (x ∷ s) t e =
     pick_same (between lo hi x) _ _ (Stopped (stop.Illegal (n + 1))) (trails-same k 0x80 0xbf (v * 64 + x % 64) (n + 1) s t) e
 
-lead-same : (l : Lead) (s t : List ℕ) → NotCutShort (after_lead l s) → after_lead l (s ++ t) ≡ after_lead l s
-lead-same (Of k lo hi v) s t e = trails-same k lo hi v 1 s t e
-lead-same Illegal s t e = refl
+lead-same : (l : Option Lead) (s t : List ℕ) → NotCutShort (after_lead l s) → after_lead l (s ++ t) ≡ after_lead l s
+lead-same (Some l) s t e = trails-same l.trails l.lo l.hi l.top 1 s t e
+lead-same None s t e = refl
 
 -- bytes behind a settled answer do not change it
 pub more-input-same : (s t : List ℕ) → (decode_one s ≡ Stopped stop.CutShort → ⊥) → decode_one (s ++ t) ≡ decode_one s
@@ -68,7 +68,7 @@ trails-fill (suc k) lo hi v n (x ∷ s) h e =
     (trails-fill k 0x80 0xbf (v * 64 + x % 64) (n + 1) s (omega arith)) (illegal (n + 1)) e
 
 -- the bounds of a first trail byte leave room for one
-abbrev Fillable : List ℕ → Lead → Type 0
+abbrev Fillable : List ℕ → Option Lead → Type 0
 Fillable s l = after_lead l s ≡ Stopped stop.CutShort → Rest (λ t. after_lead l (s ++ t))
 
 pub short-fills : (s : List ℕ) → decode_one s ≡ Stopped stop.CutShort → Rest (λ t. decode_one (s ++ t))

@@ -5,17 +5,17 @@ use mathlib.Core.List.{List, ◌∷◌}
 use mathlib.Core.Bool.{Bool, true, false}
 use native.Mathlib.Omega.{arith}
 use native.Mathlib.Numerals.{add-one}
-use borrow.Author.Tests.{lt-ltb, ltb-true, ltb-false, le-leb, lt-leb, leb-true, leb-false}
+use borrow.Author.Tests.{lt-ltb, ltb-true, ltb-false, leb-true, leb-false}
 use lib.Dec.{ltb}
 use lib.ListN.{length}
-use lib.Seq.{sets, sets-eq}
 use Rattle.lists.specs.Pick.{pick}
 use Rattle.lists.specs.Place.{fits, placed}
-use Rattle.lists.proofs.Laws.{clash}
+use Rattle.lists.proofs.Laws.{clash, ¬true⇒false}
 use Rattle.lists.proofs.Cases.{pick-case}
-use Rattle.utf.specs.Utf8.{Scalar, is_scalar, trail_count, lead_byte, trail_bytes, encode_of, encode_answer, encode_into}
-use Rattle.utf.specs.declared.utf8.Put.{Put}
-use Rattle.utf.specs.declared.utf8.Put.TheVariants.{Bytes, NoRoom, NotScalar}
+use Rattle.utf.specs.Utf8.{Scalar, is_scalar, trail_count, lead_byte, trail_bytes, encode_of, encode_answer, encode_into, put_answer, put_into}
+use Rattle.std.specs.Prelude.{Result, Ok, Err}
+use Rattle.utf.specs.declared.utf8.PutError.{PutError}
+use Rattle.utf.specs.declared.utf8.PutError.TheVariants.{NoRoom, NotScalar}
 use Rattle.utf.proofs.Groups.{count_most}
 
 -- the test of a scalar value, both ways
@@ -45,41 +45,33 @@ length-encode_of c = ap suc (length-trails c (trail_count c)) ∙ sym (add-one (
 pub length-encode : (c : ℕ) → (1 ≤ length (encode_of c)) × (length (encode_of c) ≤ 4)
 length-encode c = omega (arith, length-encode_of c, count_most c)
 
--- the answer and the list, by what the tests said
-module _ (encode : ℕ → List ℕ) (c : ℕ) (out : List ℕ) (at : ℕ) where
-  pub encode-refused : is_scalar c ≡ false → (NotScalar ≡ encode_answer encode c out at) × (out ≡ encode_into encode c out at)
-  unfolding encode_answer encode_into
-  encode-refused h = (rw h, rw h)
+-- the answer and the list, by what the number is
+not-scalar : (c : ℕ) → (Scalar c → ⊥) → is_scalar c ≡ false
+not-scalar c other = ¬true⇒false (is_scalar c) (λ e. other (is_scalar⇒Scalar c e))
 
-  module _ (n : ℕ) (yes : is_scalar c ≡ true) (e : length (encode c) ≡ n) where
-    pub encode-full : length out < at + n → (NoRoom ≡ encode_answer encode c out at) × (out ≡ encode_into encode c out at)
-    unfolding encode_answer encode_into
-    encode-full h =
-        let t = lt-leb (at + length (encode c)) (length out) (omega arith) in
-        (simp (yes, t), simp (yes, t))
+module _ (encode : ℕ → List ℕ) (c : ℕ) (old : List ℕ) (at : ℕ) where
+  pub encode_answer-refused : (Scalar c → ⊥) → encode_answer encode c old at ≡ Err NotScalar
+  unfolding encode_answer
+  encode_answer-refused other = rw (not-scalar c other)
 
-    pub encode-done : at + n ≤ length out → (Bytes n ≡ encode_answer encode c out at) × (sets out at (encode c) ≡ encode_into encode c out at)
-    unfolding encode_answer encode_into
-    encode-done h =
-        let t = le-leb (at + length (encode c)) (length out) (omega arith) in
-        (simp (yes, t) (ap Bytes (sym e)), sets-eq (encode c) out at (omega arith) ∙ simp (yes, t))
+  pub encode_into-refused : (Scalar c → ⊥) → encode_into encode c old at ≡ old
+  unfolding encode_into
+  encode_into-refused other = rw (not-scalar c other)
 
--- the answer and the list where the lead byte and k trail bytes are stored
-abbrev pub PutAt : ℕ → List ℕ → ℕ → ℕ → Type 0
-PutAt c out at k = (Bytes (k + 1) ≡ encode_answer encode_of c out at) × (sets out at (lead_byte c k ∷ trail_bytes c k) ≡ encode_into encode_of c out at)
+  pub encode_answer-scalar : Scalar c → encode_answer encode c old at ≡ put_answer old at (encode c)
+  unfolding encode_answer
+  encode_answer-scalar scalar = rw (Scalar⇒is_scalar c scalar)
 
-module _ (c : ℕ) (out : List ℕ) (at trails : ℕ) (yes : is_scalar c ≡ true) (e : trails ≡ trail_count c) where
-  long : length (encode_of c) ≡ trails + 1
-  long = omega (arith, length-encode_of c)
+  pub encode_into-scalar : Scalar c → encode_into encode c old at ≡ put_into old at (encode c)
+  unfolding encode_into
+  encode_into-scalar scalar = rw (Scalar⇒is_scalar c scalar)
 
-  pub utf8-full : length out < at + (trails + 1) → (NoRoom ≡ encode_answer encode_of c out at) × (out ≡ encode_into encode_of c out at)
-  utf8-full = encode-full encode_of c out at (trails + 1) yes long
+-- an encoding by its count of trail bytes
+pub encode_of-count : (c k : ℕ) → k ≡ trail_count c → encode_of c ≡ lead_byte c k ∷ trail_bytes c k
+unfolding encode_of
+encode_of-count c k e = rw e refl
 
-  pub utf8-done : at + (trails + 1) ≤ length out → PutAt c out at trails
-  unfolding encode_of
-  utf8-done h =
-      let d = encode-done encode_of c out at (trails + 1) yes long h in
-      (d.0, rw e d.1)
+pub ruleset puts = (encode_answer-refused, encode_into-refused, encode_answer-scalar, encode_into-scalar, encode_of-count)
 
 -- what each answer tells a caller
 pub record PutDone (encode : ℕ → List ℕ) (c : ℕ) (old : List ℕ) (at m : ℕ) : Type 0 where
@@ -99,40 +91,40 @@ pub record PutRefused (encode : ℕ → List ℕ) (c : ℕ) (old : List ℕ) (at
 
 -- the answer and the list by the two tests
 module _ (encode : ℕ → List ℕ) (c : ℕ) (old : List ℕ) (at : ℕ) where
-  abbrev AnswerBy : Bool → Bool → Put
-  AnswerBy s t = pick s (pick t (Bytes (length (encode c))) NoRoom) NotScalar
+  abbrev AnswerBy : Bool → Bool → Result ℕ PutError
+  AnswerBy s t = pick s (pick t (Ok (length (encode c))) (Err NoRoom)) (Err NotScalar)
 
   abbrev IntoBy : Bool → Bool → List ℕ
   IntoBy s t = pick s (pick t (placed old at (encode c)) old) old
 
-  done-by : (m : ℕ) (s t : Bool) → Bytes m ≡ AnswerBy s t → (s ≡ true) × (t ≡ true) × (m ≡ length (encode c)) × (IntoBy s t ≡ placed old at (encode c))
+  done-by : (m : ℕ) (s t : Bool) → Ok m ≡ AnswerBy s t → (s ≡ true) × (t ≡ true) × (m ≡ length (encode c)) × (IntoBy s t ≡ placed old at (encode c))
   done-by m true true e = (refl, refl, cc, refl)
   done-by m true false e = let z : ◌≡◌ {A = ℕ} 0 1 = cc in absurd (omega arith)
   done-by m false t e = let z : ◌≡◌ {A = ℕ} 0 1 = cc in absurd (omega arith)
 
-  full_by : (s t : Bool) → NoRoom ≡ AnswerBy s t → (s ≡ true) × (t ≡ false) × (IntoBy s t ≡ old)
+  full_by : (s t : Bool) → Err NoRoom ≡ AnswerBy s t → (s ≡ true) × (t ≡ false) × (IntoBy s t ≡ old)
   full_by true true e = let z : ◌≡◌ {A = ℕ} 0 1 = cc in absurd (omega arith)
   full_by true false e = (refl, refl, refl)
   full_by false t e = let z : ◌≡◌ {A = ℕ} 0 1 = cc in absurd (omega arith)
 
-  refused-by : (s t : Bool) → NotScalar ≡ AnswerBy s t → (s ≡ false) × (IntoBy s t ≡ old)
+  refused-by : (s t : Bool) → Err NotScalar ≡ AnswerBy s t → (s ≡ false) × (IntoBy s t ≡ old)
   refused-by true true e = let z : ◌≡◌ {A = ℕ} 0 1 = cc in absurd (omega arith)
   refused-by true false e = let z : ◌≡◌ {A = ℕ} 0 1 = cc in absurd (omega arith)
   refused-by false t e = (refl, refl)
 
-  pub put-done : (m : ℕ) → Bytes m ≡ encode_answer encode c old at → PutDone encode c old at m
+  pub put-done : (m : ℕ) → Ok m ≡ encode_answer encode c old at → PutDone encode c old at m
   unfolding encode_answer encode_into
   put-done m e =
       let r = done-by m (is_scalar c) (fits old at (encode c)) e in
       record { scalar = is_scalar⇒Scalar c r.0; within = leb-true _ _ r.1; count = r.2; bytes = r.3 }
 
-  pub put_full : NoRoom ≡ encode_answer encode c old at → PutFull encode c old at
+  pub put_full : Err NoRoom ≡ encode_answer encode c old at → PutFull encode c old at
   unfolding encode_answer encode_into
   put_full e =
       let r = full_by (is_scalar c) (fits old at (encode c)) e in
       record { scalar = is_scalar⇒Scalar c r.0; beyond = leb-false _ _ r.1; kept = r.2 }
 
-  pub put_refused : NotScalar ≡ encode_answer encode c old at → PutRefused encode c old at
+  pub put_refused : Err NotScalar ≡ encode_answer encode c old at → PutRefused encode c old at
   unfolding encode_answer encode_into
   put_refused e =
       let r = refused-by (is_scalar c) (fits old at (encode c)) e in

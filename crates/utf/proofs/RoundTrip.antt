@@ -9,7 +9,7 @@ use Rattle.lists.proofs.Cases.{pick-case, pick_yes}
 use Rattle.lists.proofs.Between.{between-yes⁺, between-yes⁻}
 use Rattle.utf.specs.Utf8.{Scalar, lead_of, trails_of, after_lead, decode_one, trail_count, trail_byte, lead_byte, trail_bytes, encode_of}
 use Rattle.utf.specs.declared.utf8.Lead.{Lead}
-use Rattle.utf.specs.declared.utf8.Lead.TheVariants.{Of, Illegal}
+use Rattle.std.specs.Prelude.{Option, Some, None}
 use Rattle.utf.specs.declared.utf8.Sequence.{Sequence}
 use Rattle.utf.specs.declared.utf8.Sequence.TheVariants as sequence
 use Rattle.utf.proofs.Leads.{lead-case}
@@ -30,11 +30,11 @@ trails-read c (suc k) n rest =
     trails-step c k n 0x80 0xbf rest (omega arith) (omega arith) ∙ trails-read c k (n + 1) rest ∙ ap (sequence.Scalar c) (omega arith)
 
 -- a lead byte that announces k trail bytes, gives v, and lets x follow
-abbrev Opens : ℕ → ℕ → ℕ → Lead → Type 0
-Opens k v x (Of k' lo hi v') = (k' ≡ k) × (v' ≡ v) × (lo ≤ x) × (x ≤ hi)
-Opens k v x Illegal = ⊥
+abbrev Opens : ℕ → ℕ → ℕ → Option Lead → Type 0
+Opens k v x (Some l) = (l.trails ≡ k) × (l.top ≡ v) × (l.lo ≤ x) × (x ≤ l.hi)
+Opens k v x None = ⊥
 
-abbrev OpensAs : ℕ → ℕ → Lead → Type 0
+abbrev OpensAs : ℕ → ℕ → Option Lead → Type 0
 OpensAs c k = Opens k (c / 2 ^ (6 * k)) (trail_byte c (k - 1))
 
 abbrev Ready : ℕ → ℕ → Type 0
@@ -51,14 +51,14 @@ opens c s =
     (λ h. lead-case (OpensAs c 2) (lead_byte c 2) (λ u. omega arith) (λ u. omega arith) (λ u. omega arith) (λ u. omega arith) (λ u. omega arith) (λ u. omega arith) (λ u. omega arith) (λ u. omega arith) (λ u. omega arith) (λ u. omega arith))
     (λ h. lead-case (OpensAs c 3) (lead_byte c 3) (λ u. omega arith) (λ u. omega arith) (λ u. omega arith) (λ u. omega arith) (λ u. omega arith) (λ u. omega arith) (λ u. omega arith) (λ u. omega arith) (λ u. omega arith) (λ u. omega arith))
 
-opens-read : (c k : ℕ) (l : Lead) (rest : List ℕ) → OpensAs c k l → after_lead l (trail_bytes c k ++ rest) ≡ sequence.Scalar c (k + 1)
-opens-read c k Illegal rest o = absurd o
-opens-read c zero (Of k' lo hi v) rest o = rw (o.0, o.1) (ap (λ (x : ℕ). sequence.Scalar x 1) (omega arith))
-opens-read c (suc k) (Of k' lo hi v) rest o =
+opens-read : (c k : ℕ) (l : Option Lead) (rest : List ℕ) → OpensAs c k l → after_lead l (trail_bytes c k ++ rest) ≡ sequence.Scalar c (k + 1)
+opens-read c k None rest o = absurd o
+opens-read c zero (Some l) rest o = rw (o.0, o.1) (ap (λ (x : ℕ). sequence.Scalar x 1) (omega arith))
+opens-read c (suc k) (Some l) rest o =
     let e : suc k - 1 ≡ k = omega arith in
-    let a : lo ≤ trail_byte c k = rw e at o.2 in
-    let b : trail_byte c k ≤ hi = rw e at o.3 in
-    rw (o.0, o.1) (trails-step c k 1 lo hi rest a b ∙ trails-read c k 2 rest ∙ ap (sequence.Scalar c) (omega arith))
+    let a : l.lo ≤ trail_byte c k = rw e at o.2 in
+    let b : trail_byte c k ≤ l.hi = rw e at o.3 in
+    rw (o.0, o.1) (trails-step c k 1 l.lo l.hi rest a b ∙ trails-read c k 2 rest ∙ ap (sequence.Scalar c) (omega arith))
 
 reads-count : (c : ℕ) (rest : List ℕ) → Scalar c → decode_one (encode_of c ++ rest) ≡ sequence.Scalar c (trail_count c + 1)
 unfolding decode_one encode_of
@@ -118,7 +118,7 @@ pub utf8-decode-encode : (s : List ℕ) (c n : ℕ) → decode_one s ≡ sequenc
 unfolding decode_one
 utf8-decode-encode [] c n e = let z : ◌≡◌ {A = ℕ} 0 1 = cc in absurd (omega arith)
 utf8-decode-encode (b ∷ t) c n e =
-    lead-case (λ (l : Lead). after_lead l t ≡ sequence.Scalar c n → Decoded (b ∷ t) c n) b
+    lead-case (λ (l : Option Lead). after_lead l t ≡ sequence.Scalar c n → Decoded (b ∷ t) c n) b
     (λ u q. let r = trails-back 0 0x80 0xbf (b - 0) 1 t c n (omega arith) (omega arith) q in
     finish b t 0 _ _ _ c n r (record { below = omega arith; plain = λ p. omega arith }) (count-one c (omega arith)) (omega arith))
     (λ u q. let z : ◌≡◌ {A = ℕ} 0 1 = cc in absurd (omega arith))

@@ -1,6 +1,7 @@
--- Reading trail bytes: one at a place, one more behind those that were read, what they leave of the value; and the front of the input.
+-- The front of the input: nothing, one byte, or a lead byte and what follows it. And trail bytes: one more behind those
+-- that were read, and what they leave of the value.
 use mathlib.Core.Path.{◌≡◌, refl, sym, ap, ◌∙◌}
-use Prim.Native.Nat.{ℕ, zero, suc, ◌+◌, ◌*◌, ◌/◌, ◌%◌, ◌^◌, ◌≤◌, ◌<◌}
+use Prim.Native.Nat.{ℕ, zero, suc, ◌+◌, ◌*◌, ◌/◌, ◌%◌, ◌^◌, ◌<◌}
 use native.Mathlib.Omega.{arith}
 use mathlib.Core.List.{List, [], ◌∷◌}
 use mathlib.Core.Bool.{Bool, true, false}
@@ -8,9 +9,7 @@ use lib.ListN.{length, get_or, drop}
 use lib.Seq.{drop-drop}
 use Rattle.lists.specs.Pick.{pick}
 use Rattle.lists.specs.Between.{between}
-use Rattle.lists.proofs.Laws.{drop-∷, drop_past}
-use Rattle.lists.proofs.Cases.{pick-case, pick_yes, pick_no}
-use Rattle.lists.proofs.Between.{between-yes⁺, between-no-low, between-no-high}
+use Rattle.lists.proofs.Cases.{pick-case}
 use Rattle.utf.specs.Utf8.{lead_of, trails_of, after_lead, decode_one}
 use Rattle.utf.specs.declared.utf8.Lead.{Lead}
 use Rattle.utf.specs.declared.utf8.Sequence.{Sequence}
@@ -18,24 +17,24 @@ use Rattle.utf.specs.declared.utf8.Sequence.TheVariants.{Scalar, Stopped}
 use Rattle.utf.specs.declared.utf8.Stop.{Stop}
 use Rattle.utf.specs.declared.utf8.Stop.TheVariants.{CutShort, Illegal}
 use Rattle.utf.proofs.Groups.{div-group}
+use Rattle.std.specs.Prelude.{Option}
+use Rattle.utf.proofs.Leads.{lead-one}
 
--- one trail byte at a place, by what the tests said
-module _ (lo hi v i : ℕ) (s : List ℕ) where
-  pub at-end : length s ≤ i → trails_of 1 lo hi v i (drop i s) ≡ Stopped CutShort
-  at-end q = rw (drop_past s i q)
+pub decode_one-none : (s : List ℕ) → length s ≡ 0 → decode_one s ≡ Stopped CutShort
+unfolding decode_one
+decode_one-none [] h = refl
+decode_one-none (x ∷ s) h = absurd (omega arith)
 
-  module _ (q : i < length s) where
-    at-trail : trails_of 1 lo hi v i (drop i s) ≡ pick (between lo hi (get_or s i 0)) (Scalar (v * 64 + get_or s i 0 % 64) (i + 1)) (Stopped (Illegal (i + 1)))
-    at-trail = rw (drop-∷ s i q)
+pub decode_one-some : (s : List ℕ) → 0 < length s → decode_one s ≡ after_lead (lead_of (get_or s 0 0)) (drop 1 s)
+unfolding decode_one
+decode_one-some [] h = absurd (omega arith)
+decode_one-some (x ∷ s) h = refl
 
-    pub at-good : lo ≤ get_or s i 0 → get_or s i 0 ≤ hi → trails_of 1 lo hi v i (drop i s) ≡ Scalar (v * 64 + get_or s i 0 % 64) (i + 1)
-    at-good a b = at-trail ∙ pick_yes (between lo hi (get_or s i 0)) _ _ (between-yes⁺ lo hi (get_or s i 0) a b)
+pub decode_one-small : (s : List ℕ) → 0 < length s → get_or s 0 0 < 0x80 → decode_one s ≡ Scalar (get_or s 0 0) 1
+decode_one-small s h b =
+    decode_one-some s h ∙ ap (λ (l : Option Lead). after_lead l (drop 1 s)) (lead-one (get_or s 0 0) b) ∙ ap (λ (v : ℕ). Scalar v 1) (omega arith)
 
-    pub at_low : get_or s i 0 < lo → trails_of 1 lo hi v i (drop i s) ≡ Stopped (Illegal (i + 1))
-    at_low a = at-trail ∙ pick_no (between lo hi (get_or s i 0)) _ _ (between-no-low lo hi (get_or s i 0) a)
-
-    pub at_high : lo ≤ get_or s i 0 → hi < get_or s i 0 → trails_of 1 lo hi v i (drop i s) ≡ Stopped (Illegal (i + 1))
-    at_high a b = at-trail ∙ pick_no (between lo hi (get_or s i 0)) _ _ (between-no-high lo hi (get_or s i 0) a b)
+pub ruleset fronts = (decode_one-none, decode_one-some, decode_one-small)
 
 -- one more trail byte of s behind what has been read
 abbrev pub behind : Sequence → List ℕ → Sequence
@@ -69,14 +68,3 @@ trails-above (suc k) lo hi v n (x ∷ s) c m e =
     (λ t q. let r = trails-above k 0x80 0xbf (v * 64 + x % 64) (n + 1) s c m q in omega (arith, div-group c k))
     (λ t q. let z : ◌≡◌ {A = ℕ} 0 1 = cc in absurd (omega arith))
     e
-
--- the front of the input: nothing, or a lead byte
-pub at_none : (s : List ℕ) → length s ≡ 0 → Stopped CutShort ≡ decode_one s
-unfolding decode_one
-at_none [] h = refl
-at_none (x ∷ s) h = absurd (omega arith)
-
-pub at_some : (s : List ℕ) (h : Lead) → (length s ≡ 0 → ⊥) → lead_of (get_or s 0 0) ≡ h → after_lead h (drop 1 s) ≡ decode_one s
-unfolding decode_one
-at_some [] h n e = absurd (n refl)
-at_some (x ∷ s) h n e = ap (λ (y : Lead). after_lead y s) (sym e)

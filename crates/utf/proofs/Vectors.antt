@@ -11,7 +11,7 @@ use Rattle.utf.specs.declared.utf8.Sequence.TheVariants.{Scalar, Stopped}
 use Rattle.utf.specs.declared.utf8.Stop.TheVariants.{CutShort, Illegal}
 use Rattle.utf.specs.declared.utf32.ByteOrder.{ByteOrder}
 use Rattle.utf.specs.declared.utf32.ByteOrder.TheVariants.{Big, Little}
-use Rattle.utf.specs.declared.utf32.Mark.TheVariants as mark
+use Rattle.std.specs.Prelude.{Some, None}
 
 -- bytes, whether they are one well-formed sequence, and what decoding them gives
 record Row : Type 0 where
@@ -80,7 +80,7 @@ all_words = (refl, (refl, (refl, (refl, (refl, (refl, (refl, (refl, (refl, (refl
 
 -- the mark in either order, and what a text of plain UTF-32 may begin with
 marks : (mark_in Big ≡ 0x00 ∷ 0x00 ∷ 0xfe ∷ 0xff ∷ []) × (mark_in Little ≡ 0xff ∷ 0xfe ∷ 0x00 ∷ 0x00 ∷ [])
-    × (mark_at (0x00 ∷ 0x00 ∷ 0xfe ∷ 0xff ∷ []) ≡ mark.Of Big) × (mark_at (0xff ∷ 0xfe ∷ 0x00 ∷ 0x00 ∷ 0x33 ∷ []) ≡ mark.Of Little)
-    × (mark_at (0x00 ∷ 0x00 ∷ 0x00 ∷ 0x33 ∷ []) ≡ mark.None) × (mark_at (0xff ∷ 0xfe ∷ 0x00 ∷ []) ≡ mark.None)
+    × (mark_at (0x00 ∷ 0x00 ∷ 0xfe ∷ 0xff ∷ []) ≡ Some Big) × (mark_at (0xff ∷ 0xfe ∷ 0x00 ∷ 0x00 ∷ 0x33 ∷ []) ≡ Some Little)
+    × (mark_at (0x00 ∷ 0x00 ∷ 0x00 ∷ 0x33 ∷ []) ≡ None) × (mark_at (0xff ∷ 0xfe ∷ 0x00 ∷ []) ≡ None)
 unfolding encode_in decode_in mark_at is_scalar
 marks = (refl, refl, refl, refl, refl, refl)

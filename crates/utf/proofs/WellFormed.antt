@@ -14,10 +14,10 @@ use Rattle.lists.specs.Between.{between}
 use Rattle.lists.proofs.Laws.{clash, and_yes, and_left, and_right}
 use Rattle.lists.proofs.Cases.{pick-case, pick_yes}
 use Rattle.lists.proofs.Between.{between-yes⁺, between-yes⁻}
-use Rattle.utf.specs.Utf8.{lead_mark, lead_of, trails_of, after_lead, decode_one}
+use Rattle.utf.specs.Utf8.{lead_mark, leads, lead_of, trails_of, after_lead, decode_one}
 use Rattle.utf.specs.WellFormed.{Range, from, rows, matches, any_row, well_formed, value_from, sequence_value, StartsWith, Begins}
 use Rattle.utf.specs.declared.utf8.Lead.{Lead}
-use Rattle.utf.specs.declared.utf8.Lead.TheVariants.{Of}
+use Rattle.std.specs.Prelude.{Option}
 use Rattle.utf.specs.declared.utf8.Sequence.{Sequence}
 use Rattle.utf.specs.declared.utf8.Sequence.TheVariants.{Scalar, Stopped}
 use Rattle.utf.specs.declared.utf8.Stop.TheVariants as stop
@@ -60,7 +60,7 @@ match-reads (suc k) lo hi v n (x ∷ s) t e =
     ∙ ap (Scalar (value_from (v * 64 + x % 64) s)) (omega arith)
 
 -- a row whose lead bytes say what its other places are
-row_reads : (a z k lo hi : ℕ) (s t : List ℕ) → ((b : ℕ) → (a ≤ b) × (b ≤ z) → lead_of b ≡ Of k lo hi (b - lead_mark k))
+row_reads : (a z k lo hi : ℕ) (s t : List ℕ) → ((b : ℕ) → (a ≤ b) × (b ≤ z) → lead_of b ≡ leads k lo hi (b - lead_mark k))
     → matches (from a z ∷ ranges k lo hi) s ≡ true → decode_one (s ++ t) ≡ Scalar (sequence_value s) (length s)
 unfolding decode_one sequence_value
 row_reads a z k lo hi [] t f e = absurd (clash e refl)
@@ -68,7 +68,7 @@ row_reads a z k lo hi (b ∷ s) t f e =
     let m = and_right (between a z b) _ e in
     let w = between-yes⁻ a z b (and_left (between a z b) _ e) in
     let n = match-length k lo hi s m in
-    ap (λ (l : Lead). after_lead l (s ++ t)) (f b w)
+    ap (λ (l : Option Lead). after_lead l (s ++ t)) (f b w)
     ∙ match-reads k lo hi (b - lead_mark k) 1 s t m
     ∙ ap (λ (j : ℕ). Scalar (value_from (b - lead_mark j) s) (1 + j)) (sym n)
     ∙ ap (Scalar (value_from (b - lead_mark (length s)) s)) (omega arith)
@@ -128,7 +128,7 @@ reads-match (suc k) lo hi v n (x ∷ s) c m e =
     e
 
 reads-row : (a z k lo hi b : ℕ) (t : List ℕ) (c n : ℕ) → In (from a z ∷ ranges k lo hi) rows → (a ≤ b) × (b ≤ z)
-    → after_lead (Of k lo hi (b - lead_mark k)) t ≡ Scalar c n → StartsWith (b ∷ t) c n
+    → after_lead (leads k lo hi (b - lead_mark k)) t ≡ Scalar c n → StartsWith (b ∷ t) c n
 unfolding well_formed sequence_value
 reads-row a z k lo hi b t c n i h e =
     let r = reads-match k lo hi (b - lead_mark k) 1 t c n e in
@@ -144,7 +144,7 @@ decodes-starts : (s : List ℕ) (c n : ℕ) → decode_one s ≡ Scalar c n → 
 unfolding decode_one
 decodes-starts [] c n e = let z : ◌≡◌ {A = ℕ} 0 1 = cc in absurd (omega arith)
 decodes-starts (b ∷ t) c n e =
-    lead-case (λ (l : Lead). after_lead l t ≡ Scalar c n → StartsWith (b ∷ t) c n) b
+    lead-case (λ (l : Option Lead). after_lead l t ≡ Scalar c n → StartsWith (b ∷ t) c n) b
     (λ u. reads-row 0x00 0x7f 0 0x80 0xbf b t c n (inl refl) (omega arith))
     (λ u q. let z : ◌≡◌ {A = ℕ} 0 1 = cc in absurd (omega arith))
     (λ u. reads-row 0xc2 0xdf 1 0x80 0xbf b t c n (inr (inl refl)) (omega arith))

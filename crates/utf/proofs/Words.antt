@@ -11,6 +11,7 @@ use borrow.Author.Tests.{lt-ltb, le-ltb}
 use lib.ListN.{length, get_or, take}
 use lib.Pow.{shr-shr}
 use lib.Seq.{take-append_seam}
+use Rattle.std.specs.Prelude.{if◌then◌else◌}
 use Rattle.lists.specs.Order.{All}
 use Rattle.utf.specs.Utf8.{is_scalar}
 use Rattle.utf.specs.Utf32.{number_from, number_of, in_order, low_bytes, encode_in, word_in, decode_in}
@@ -33,13 +34,26 @@ in_order-in_order : (order : ByteOrder) (a b c d : ℕ) → in_order order (four
 in_order-in_order Big a b c d = refl
 in_order-in_order Little a b c d = refl
 
-pub word_in-four : (order : ByteOrder) (s : List ℕ) → 4 ≤ length s
-    → number_of (four_in order (get_or s 0 0) (get_or s 1 0) (get_or s 2 0) (get_or s 3 0)) ≡ word_in order s
-word_in-four order [] h = absurd (omega arith)
-word_in-four order (a ∷ []) h = absurd (omega arith)
-word_in-four order (a ∷ b ∷ []) h = absurd (omega arith)
-word_in-four order (a ∷ b ∷ c ∷ []) h = absurd (omega arith)
-word_in-four order (a ∷ b ∷ c ∷ d ∷ s) h = ap number_of (sym (in_order-four order a b c d))
+-- the first four, one by one
+pub word_in_four : (order : ByteOrder) (s : List ℕ) → 4 ≤ length s
+    → word_in order s ≡ number_of (in_order order (get_or s 0 0 ∷ get_or s 1 0 ∷ get_or s 2 0 ∷ get_or s 3 0 ∷ []))
+word_in_four order [] h = absurd (omega arith)
+word_in_four order (a ∷ []) h = absurd (omega arith)
+word_in_four order (a ∷ b ∷ []) h = absurd (omega arith)
+word_in_four order (a ∷ b ∷ c ∷ []) h = absurd (omega arith)
+word_in_four order (a ∷ b ∷ c ∷ d ∷ s) h = refl
+
+-- what is decoded, by the length
+pub decode_in-short : (order : ByteOrder) (s : List ℕ) → length s < 4 → decode_in order s ≡ sequence.Stopped stop.CutShort
+unfolding decode_in
+decode_in-short order s h = simp (lt-ltb (length s) 4 h)
+
+pub decode_in-four : (order : ByteOrder) (s : List ℕ) → 4 ≤ length s
+    → decode_in order s ≡ (if is_scalar (word_in order s) then sequence.Scalar (word_in order s) 4 else sequence.Stopped (stop.Illegal 4))
+unfolding decode_in
+decode_in-four order s h = simp (le-ltb (length s) 4 h)
+
+pub ruleset words = (word_in_four, decode_in-short, decode_in-four)
 
 pub encode_in-four : (order : ByteOrder) (c w x y z : ℕ)
     → w ≡ c / 2 ^ (8 * 3) % 256 → x ≡ c / 2 ^ (8 * 2) % 256 → y ≡ c / 2 ^ (8 * 1) % 256 → z ≡ c / 2 ^ (8 * 0) % 256
@@ -54,10 +68,6 @@ length-encode_in Little c = refl
 
 -- what is decoded, by the tests
 module _ (order : ByteOrder) (s : List ℕ) where
-  pub decode_in-short : length s < 4 → sequence.Stopped stop.CutShort ≡ decode_in order s
-  unfolding decode_in
-  decode_in-short h = simp (lt-ltb (length s) 4 h)
-
   module _ (long : 4 ≤ length s) (c : ℕ) (e : c ≡ word_in order s) where
     pub decode_in-scalar : is_scalar c ≡ true → sequence.Scalar c 4 ≡ decode_in order s
     unfolding decode_in

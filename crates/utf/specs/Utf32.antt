@@ -4,15 +4,13 @@
 -- (`decode_in`); the byte order mark (`mark_in`, `mark_at`).
 -- Cases: proofs/Vectors.antt
 use Rattle.std.specs.Prelude.{if◌then◌else◌, ℕ, zero, suc, ◌+◌, ◌*◌, ◌/◌, ◌%◌, ◌^◌, List}
-use Rattle.std.specs.Prelude.{[], ◌∷◌, reverse, Bool, false, ltb, eqb, length, take}
+use Rattle.std.specs.Prelude.{[], ◌∷◌, reverse, Bool, false, ltb, eqb, length, take, Option, Some, None}
 use Rattle.utf.specs.Utf8.{is_scalar}
 use Rattle.utf.specs.declared.utf8.Stop.TheVariants as stop
 use Rattle.utf.specs.declared.utf8.Sequence.{Sequence}
 use Rattle.utf.specs.declared.utf8.Sequence.TheVariants as sequence
 use Rattle.utf.specs.declared.utf32.ByteOrder.{ByteOrder}
 use Rattle.utf.specs.declared.utf32.ByteOrder.TheVariants.{Big, Little}
-use Rattle.utf.specs.declared.utf32.Mark.{Mark}
-use Rattle.utf.specs.declared.utf32.Mark.TheVariants as mark
 
 -- each byte put under v
 abbrev pub number_from : ℕ → List ℕ → ℕ
@@ -57,8 +55,8 @@ is_mark (sequence.Scalar c n) = eqb c 0xfeff
 is_mark (sequence.Stopped w) = false
 
 -- the mark at the front of a text
-unfoldable pub mark_at : List ℕ → Mark
+unfoldable pub mark_at : List ℕ → Option ByteOrder
 mark_at s =
-    if is_mark (decode_in Big s) then mark.Of Big else
-    if is_mark (decode_in Little s) then mark.Of Little else
-    mark.None
+    if is_mark (decode_in Big s) then Some Big else
+    if is_mark (decode_in Little s) then Some Little else
+    None

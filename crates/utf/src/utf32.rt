@@ -1,149 +1,103 @@
 // UTF-32 (source document 002): one sequence of four bytes is decoded, one scalar value is encoded, in either byte
 // order.
-ghost use Rattle.std.specs.Prelude.{if◌then◌else◌, ◌≡◌, [], ◌∷◌, ◌+◌, ◌*◌, ◌/◌, ◌%◌, ◌^◌, ◌≤◌, length};
-ghost use Rattle.std.proofs.lemmas.List.Edits.{sets};
-ghost use Rattle.lists.specs.Place.{fits, placed};
-ghost use Rattle.utf.specs.Utf8.{encode_answer, encode_into};
-ghost use Rattle.utf.specs.Utf32.{number_of, word_in, encode_in, decode_in, mark_in, is_mark, mark_at};
+ghost use Rattle.std.specs.Prelude.{◌≡◌};
+ghost use Rattle.lists.specs.Place.{fits};
+ghost use Rattle.utf.specs.Utf8.{encode_answer, encode_into, put_into};
+ghost use Rattle.utf.specs.Utf32.{decode_in, encode_in, mark_in, is_mark, mark_at};
 ghost use Rattle.utf.specs.declared.utf32.ByteOrder.TheVariants as order;
 
-use crate::utf8::{Put, Sequence, Stop, is_scalar};
+use crate::utf8::{PutError, Sequence, Stop, is_scalar, put};
 
 // The order of a number's bytes: the highest first, or the lowest first.
-#[derive(Clone, Copy)]
+#[derive(Clone, Copy, Debug, PartialEq, Eq)]
 pub enum ByteOrder {
     Big,
     Little,
 }
 
-// How a text of plain UTF-32 begins: with a byte order mark, or with none.
-#[derive(Clone, Copy)]
-pub enum Mark {
-    // U+FEFF in this byte order, four bytes. Read the text behind it in that order.
-    Of(ByteOrder),
-    // No mark. Read the text in big-endian order.
-    None,
-}
+impl ByteOrder {
+    ghost use Rattle.utf.specs.Utf32.{number_of, in_order, encode_in};
 
-// Four bytes as a number, the highest first.
-fn word(a: u8, b: u8, c: u8, d: u8) -> u32
-    ensures { result ≡ number_of (a ∷ b ∷ c ∷ d ∷ []) }
-{
-    (((a as u32) * 256 + (b as u32)) * 256 + (c as u32)) * 256 + (d as u32)
-}
-
-// The first four bytes as a number.
-fn word_in(order: ByteOrder, s: &[u8]) -> u32
-    requires { 4 ≤ length s.now }
-    ensures { result ≡ word_in order s.now }
-{
-    match order {
-        ByteOrder::Big => word(s[0], s[1], s[2], s[3]),
-        ByteOrder::Little => word(s[3], s[2], s[1], s[0]),
+    // Four bytes as a number.
+    fn number(self, bytes: [u8; 4]) -> u32
+        ensures { result ≡ number_of (in_order self bytes) }
+    {
+        match self {
+            ByteOrder::Big => u32::from_be_bytes(bytes),
+            ByteOrder::Little => u32::from_le_bytes(bytes),
+        }
     }
-}
 
-// The sequence at the front of `s`. One answer at the end: with several returns the compiler keeps it in memory.
-pub fn decode(order: ByteOrder, s: &[u8]) -> Sequence
-    ensures { result ≡ decode_in order s.now }
-{
-    if s.len() < 4 {
-        Sequence::Stopped(Stop::CutShort)
-    } else {
-        let c = word_in(order, s);
-        if is_scalar(c) {
-            Sequence::Scalar(c, 4)
-        } else {
-            Sequence::Stopped(Stop::Illegal(4))
+    // A number as four bytes.
+    #[tactic(auto, unfolding(crate::specs::Utf32::encode_in))]
+    fn bytes(self, c: u32) -> [u8; 4]
+        ensures { result ≡ encode_in self c }
+    {
+        match self {
+            ByteOrder::Big => c.to_be_bytes(),
+            ByteOrder::Little => c.to_le_bytes(),
         }
     }
 }
 
-// Whether a sequence is U+FEFF.
-fn is_mark(read: Sequence) -> bool
-    ensures { result ≡ is_mark read }
+// The sequence at the front of `s`. One answer at the end: with several returns the compiler keeps it in memory.
+#[tactic(auto, using(crate::proofs::Words::words), unfolding(crate::specs::Utf8::is_scalar))]
+pub fn decode(order: ByteOrder, s: &[u8]) -> Sequence
+    ensures { result ≡ decode_in order s.now }
 {
-    match read {
-        Sequence::Scalar(c, _) => c == 0xfeff,
-        Sequence::Stopped(_) => false,
+    match s {
+        &[a, b, c, d, ..] => {
+            let number = order.number([a, b, c, d]);
+            if is_scalar(number) {
+                Sequence::Scalar(number, 4)
+            } else {
+                Sequence::Stopped(Stop::Illegal(4))
+            }
+        }
+        _ => Sequence::Stopped(Stop::CutShort),
     }
 }
 
-// The byte order mark at the front of `s`.
-pub fn mark_at(s: &[u8]) -> Mark
+// Whether U+FEFF is at the front of `s` in this order.
+fn has_mark(order: ByteOrder, s: &[u8]) -> bool
+    ensures { result ≡ is_mark (decode_in order s.now) }
+{
+    matches!(decode(order, s), Sequence::Scalar(0xfeff, _))
+}
+
+// The byte order of the mark at the front of `s`: read the text behind these four bytes in that order. With no mark,
+// read the text in big-endian order.
+#[tactic(auto, unfolding(crate::specs::Utf32::mark_at))]
+pub fn mark_at(s: &[u8]) -> Option<ByteOrder>
     ensures { result ≡ mark_at s.now }
 {
-    if is_mark(decode(ByteOrder::Big, s)) {
-        return Mark::Of(ByteOrder::Big);
-    }
-    if is_mark(decode(ByteOrder::Little, s)) {
-        return Mark::Of(ByteOrder::Little);
-    }
-    Mark::None
-}
-
-// The byte of a number above its k lowest.
-fn byte_above(c: u32, k: usize) -> u8
-    requires { k ≤ 3 }
-    ensures { result ≡ c / 2 ^ (8 * k) % 256 }
-{
-    ((c >> (8 * k)) % 256) as u8
-}
-
-// Writes four bytes into `out` from `at` on.
-fn put_four(a: u8, b: u8, c: u8, d: u8, out: &mut [u8], at: usize)
-    requires { at + 4 ≤ length out.old }
-    ensures { out.new ≡ sets out.old at (a ∷ b ∷ c ∷ d ∷ []) }
-{
-    out[at] = a;
-    out[at + 1] = b;
-    out[at + 2] = c;
-    out[at + 3] = d;
-}
-
-// Writes a number's four bytes into `out` from `at` on.
-fn put_word(order: ByteOrder, c: u32, out: &mut [u8], at: usize)
-    requires { at + 4 ≤ length out.old }
-    ensures { out.new ≡ sets out.old at (encode_in order c) }
-{
-    let a = byte_above(c, 3);
-    let b = byte_above(c, 2);
-    let e = byte_above(c, 1);
-    let d = byte_above(c, 0);
-    match order {
-        ByteOrder::Big => put_four(a, b, e, d, out, at),
-        ByteOrder::Little => put_four(d, e, b, a, out, at),
+    if has_mark(ByteOrder::Big, s) {
+        Some(ByteOrder::Big)
+    } else if has_mark(ByteOrder::Little, s) {
+        Some(ByteOrder::Little)
+    } else {
+        None
     }
 }
 
-// Writes a scalar value's bytes into `out` from `at` on if they fit; otherwise `out` stays as it was.
-pub fn encode(order: ByteOrder, c: u32, out: &mut [u8], at: usize) -> Put
-    ensures { (result ≡ encode_answer (encode_in order) c out.old at)
-        × (out.new ≡ encode_into (encode_in order) c out.old at) }
+// Writes a scalar value's bytes into `out` from `at` on if they fit, and answers how many; otherwise `out` stays as it
+// was.
+// Output and place stay two arguments: it answers at any place, also past the output.
+#[tactic(auto, using(crate::proofs::Puts::puts))]
+pub fn encode(order: ByteOrder, c: u32, out: &mut [u8], at: usize) -> Result<usize, PutError>
+    ensures answer { result ≡ encode_answer (encode_in order) c out.old at }
+    ensures written { out.new ≡ encode_into (encode_in order) c out.old at }
 {
     if !is_scalar(c) {
-        return Put::NotScalar;
+        return Err(PutError::NotScalar);
     }
-    if out.len() < 4 {
-        return Put::NoRoom;
-    }
-    if out.len() - 4 < at {
-        return Put::NoRoom;
-    }
-    put_word(order, c, out, at);
-    Put::Bytes(4)
+    put(out, at, &order.bytes(c))
 }
 
 // Writes the byte order mark, in big-endian order, to the front of `out` if it fits, and answers whether it did.
 pub fn put_mark(out: &mut [u8]) -> bool
-    ensures { let old = out.old in
-        let mark = mark_in order.Big in
-        (result ≡ fits old 0 mark)
-        × (out.new ≡ (if fits old 0 mark then placed old 0 mark else old)) }
+    ensures answer { result ≡ fits out.old 0 (mark_in order.Big) }
+    ensures written { out.new ≡ put_into out.old 0 (mark_in order.Big) }
 {
-    if out.len() < 4 {
-        return false;
-    }
-    put_word(ByteOrder::Big, 0xfeff, out, 0);
-    true
+    put(out, 0, &ByteOrder::Big.bytes(0xfeff)).is_ok()
 }

@@ -1,12 +1,11 @@
 // UTF-8 as RFC 3629 has it: one sequence is decoded, one code point is encoded.
-ghost use Rattle.std.specs.Prelude.{◌≡◌, ℕ, suc, ◌+◌, ◌*◌, ◌%◌, ◌^◌, ◌≤◌, ◌<◌, drop};
-ghost use Rattle.utf.specs.Utf8.{is_scalar, stop_number, lead_mark, lead_of, trails_of, decode_one, trail_count};
-ghost use Rattle.utf.specs.Utf8.{trail_byte, lead_byte, encode_of, encode_answer, encode_into};
-ghost use Rattle.utf.specs.declared.utf8.Lead.TheVariants.{Of};
-ghost use Rattle.utf.specs.declared.utf8.Sequence.TheVariants.{Scalar};
+ghost use Rattle.std.specs.Prelude.{◌≡◌, ◌+◌, ◌*◌, ◌%◌, ◌^◌, ◌≤◌, ◌<◌, ◌↔◌, drop, IsTrue};
+ghost use Rattle.utf.specs.Utf8.{Scalar, lead_mark, lead_of, trail_in, trails_of, decode_one, trail_count};
+ghost use Rattle.utf.specs.Utf8.{sequence_of, trail_byte, lead_byte, encode_of, encode_answer, encode_into};
+ghost use Rattle.utf.specs.Utf8.{put_answer, put_into};
 
-// Why a sequence gives no scalar value, by number.
-#[derive(Clone, Copy)]
+// Why a sequence gives no scalar value.
+#[derive(Clone, Copy, Debug, PartialEq, Eq)]
 pub enum Stop {
     // 51: the input ends inside the sequence. Put the next bytes after it and call again; at the input's end, give up.
     CutShort,
@@ -17,94 +16,76 @@ pub enum Stop {
     Unassigned,
 }
 
+impl Stop {
+    ghost use Rattle.utf.specs.Utf8.{stop_number};
+
+    // Document 01's number for a stop.
+    pub fn number(self) -> u32
+        ensures { result ≡ stop_number self }
+    {
+        match self {
+            Stop::CutShort => 51,
+            Stop::Illegal(_) => 52,
+            Stop::Unassigned => 53,
+        }
+    }
+}
+
 // The outcome of one sequence: a scalar value and the count of its bytes, or a stop.
-#[derive(Clone, Copy)]
+// No Result: to be stopped is an answer as the rules ask for it (`decode_one`), and no failure.
+#[derive(Clone, Copy, Debug, PartialEq, Eq)]
 pub enum Sequence {
     Scalar(u32, usize),
     Stopped(Stop),
 }
 
 // The meaning of a lead byte: the count of trail bytes, the bounds of the first of them, and the lead's own bits.
-#[derive(Clone, Copy)]
-pub enum Lead {
-    Of {
-        trails: usize,
-        lo: u8,
-        hi: u8,
-        top: u32,
-    },
-    Illegal,
+#[derive(Clone, Copy, Debug, PartialEq, Eq)]
+pub struct Lead {
+    pub trails: usize,
+    pub lo: u8,
+    pub hi: u8,
+    pub top: u32,
 }
 
-// The outcome of encoding.
-#[derive(Clone, Copy)]
-pub enum Put {
-    // So many bytes are written. Go on after them.
-    Bytes(usize),
-    // The bytes do not fit, and nothing is written; a conversion answers 50. Encode again with more room.
+// Why nothing was written.
+#[derive(Clone, Copy, Debug, PartialEq, Eq)]
+pub enum PutError {
+    // The bytes do not fit; a conversion answers 50. Encode again with more room.
     NoRoom,
-    // The number is no scalar value, and nothing is written.
+    // The number is no scalar value.
     NotScalar,
 }
 
-// Document 01's number for a stop.
-pub fn stop_number(stop: Stop) -> u32
-    ensures { result ≡ stop_number stop }
-{
-    match stop {
-        Stop::CutShort => 51,
-        Stop::Illegal(_) => 52,
-        Stop::Unassigned => 53,
-    }
-}
-
 // Whether a number is a scalar value: a code point that is no surrogate.
+// Not one with `keeps_t6` of table: neither crate knows the other, and lists, below both, has no code.
 pub fn is_scalar(c: u32) -> bool
-    ensures { result ≡ is_scalar c }
+    ensures { IsTrue result ↔ Scalar c }
 {
-    if c < 0xd800 {
-        return true;
-    }
-    if c < 0xe000 {
-        return false;
-    }
-    c < 0x110000
+    matches!(c, 0..=0xd7ff | 0xe000..=0x10ffff)
 }
 
-// A byte as a number of 32 bits.
-fn wide(x: u8) -> u32
-    ensures { result ≡ x }
+// The meaning of a legal lead byte, by ranges: the table of RFC 3629.
+pub fn lead_of(b: u8) -> Option<Lead>
+    ensures { result ≡ lead_of b }
 {
-    x as u32
-}
-
-// A legal lead byte: the count of trail bytes, the lowest and the highest first trail byte, and its own bits.
-fn legal(trails: usize, lo: u8, hi: u8, top: u32) -> Lead
-    ensures { result ≡ Of trails lo hi top }
-{
-    Lead::Of {
+    let (trails, lo, hi, bits) = match b {
+        0x00..=0x7f => (0, 0x80, 0xbf, b),
+        0xc2..=0xdf => (1, 0x80, 0xbf, b & 0x1f),
+        0xe0 => (2, 0xa0, 0xbf, b & 0x0f),
+        0xe1..=0xec | 0xee..=0xef => (2, 0x80, 0xbf, b & 0x0f),
+        0xed => (2, 0x80, 0x9f, b & 0x0f),
+        0xf0 => (3, 0x90, 0xbf, b & 0x07),
+        0xf1..=0xf3 => (3, 0x80, 0xbf, b & 0x07),
+        0xf4 => (3, 0x80, 0x8f, b & 0x07),
+        _ => return None,
+    };
+    Some(Lead {
         trails,
         lo,
         hi,
-        top,
-    }
-}
-
-// The meaning of a lead byte, by ranges: the table of RFC 3629.
-pub fn lead_of(b: u8) -> Lead
-    ensures { result ≡ lead_of b }
-{
-    match b {
-        0x00..=0x7f => legal(0, 0x80, 0xbf, wide(b)),
-        0xc2..=0xdf => legal(1, 0x80, 0xbf, wide(b) & 0x1f),
-        0xe0 => legal(2, 0xa0, 0xbf, wide(b) & 0x0f),
-        0xe1..=0xec | 0xee..=0xef => legal(2, 0x80, 0xbf, wide(b) & 0x0f),
-        0xed => legal(2, 0x80, 0x9f, wide(b) & 0x0f),
-        0xf0 => legal(3, 0x90, 0xbf, wide(b) & 0x07),
-        0xf1..=0xf3 => legal(3, 0x80, 0xbf, wide(b) & 0x07),
-        0xf4 => legal(3, 0x80, 0x8f, wide(b) & 0x07),
-        _ => Lead::Illegal,
-    }
+        top: u32::from(bits),
+    })
 }
 
 // The lowest group of six bits.
@@ -119,78 +100,63 @@ fn put_six(v: u32, x: u8) -> u32
     requires { v < 2 ^ 26 }
     ensures { result ≡ v * 64 + x % 64 }
 {
-    (v << 6) | low_six(wide(x))
+    (v << 6) | low_six(u32::from(x))
 }
 
 // The trail byte at a place of `s`, from `lo` to `hi`, its six bits put under `v`.
-fn trail_at(s: &[u8], i: usize, lo: u8, hi: u8, v: u32) -> Sequence
+// No `Lead`: the bounds of a second or third trail byte are not the lead's.
+fn trail_at(s: &[u8], i: usize, lo: u8, hi: u8, v: u32) -> Result<(u32, usize), Stop>
     requires { v < 2 ^ 26 }
-    ensures { result ≡ trails_of 1 lo hi v i (drop i s.now) }
+    ensures { result ≡ trail_in lo hi v i (drop i s.now) }
 {
-    if s.len() <= i {
-        return Sequence::Stopped(Stop::CutShort);
-    }
-    let x = s[i];
-    if x < lo {
-        return Sequence::Stopped(Stop::Illegal(i + 1));
-    }
-    if hi < x {
-        return Sequence::Stopped(Stop::Illegal(i + 1));
-    }
-    Sequence::Scalar(put_six(v, x), i + 1)
-}
-
-// One more trail byte after the bytes that `read` took; a stop stays as it is.
-fn trail_behind(s: &[u8], read: Sequence) -> Sequence
-    requires { (v i : ℕ) → read ≡ Scalar v i → v < 2 ^ 26 }
-    ensures { (k lo hi v : ℕ) → read ≡ trails_of (suc k) lo hi v 1 (drop 1 s.now)
-        → result ≡ trails_of (suc (suc k)) lo hi v 1 (drop 1 s.now) }
-{
-    match read {
-        Sequence::Stopped(stop) => Sequence::Stopped(stop),
-        Sequence::Scalar(v, i) => trail_at(s, i, 0x80, 0xbf, v),
+    match s.get(i) {
+        None => Err(Stop::CutShort),
+        Some(&x) if x < lo || hi < x => Err(Stop::Illegal(i + 1)),
+        Some(&x) => Ok((put_six(v, x), i + 1)),
     }
 }
 
-// The trail bytes after the first byte of `s`, the first of them from `lo` to `hi`, each putting six bits under `top`.
-fn trails_of(s: &[u8], trails: usize, lo: u8, hi: u8, top: u32) -> Sequence
-    requires { (trails ≤ 3) × (top < 128) }
-    ensures { result ≡ trails_of trails lo hi top 1 (drop 1 s.now) }
-{
-    if trails == 0 {
-        return Sequence::Scalar(top, 1);
+impl Lead {
+    // The trail bytes after the first byte of `s`, each putting six bits under the lead's own.
+    fn follow(self, s: &[u8]) -> Result<(u32, usize), Stop>
+        requires trails { self.trails ≤ 3 }
+        requires top { self.top < 128 }
+        ensures { sequence_of result ≡ trails_of self.trails self.lo self.hi self.top 1 (drop 1 s.now) }
+    {
+        if self.trails == 0 {
+            return Ok((self.top, 1));
+        }
+        let one = trail_at(s, 1, self.lo, self.hi, self.top);
+        if self.trails == 1 {
+            return one;
+        }
+        let (v, n) = one?;
+        let two = trail_at(s, n, 0x80, 0xbf, v);
+        if self.trails == 2 {
+            return two;
+        }
+        let (v, n) = two?;
+        trail_at(s, n, 0x80, 0xbf, v)
     }
-    let one = trail_at(s, 1, lo, hi, top);
-    if trails == 1 {
-        return one;
-    }
-    let two = trail_behind(s, one);
-    if trails == 2 {
-        return two;
-    }
-    trail_behind(s, two)
 }
 
-// The sequence at the front of `s`.
+// The sequence at the front of `s`. One answer at the end, for speed.
+#[tactic(auto, using(crate::proofs::Trails::fronts))]
 pub fn decode(s: &[u8]) -> Sequence
     ensures { result ≡ decode_one s.now }
 {
-    if s.len() == 0 {
+    let Some(&b) = s.first() else {
         return Sequence::Stopped(Stop::CutShort);
-    }
-    let b = s[0];
+    };
     if b < 0x80 {
-        return Sequence::Scalar(wide(b), 1);
+        return Sequence::Scalar(u32::from(b), 1);
     }
-    let lead = lead_of(b);
-    match lead {
-        Lead::Of {
-            trails,
-            lo,
-            hi,
-            top,
-        } => trails_of(s, trails, lo, hi, top),
-        Lead::Illegal => Sequence::Stopped(Stop::Illegal(1)),
+    match lead_of(b) {
+        None => Sequence::Stopped(Stop::Illegal(1)),
+        Some(lead) => match lead.follow(s) {
+            Ok((c, n)) => Sequence::Scalar(c, n),
+            Err(stop) => Sequence::Stopped(stop),
+        },
     }
 }
 
@@ -198,16 +164,12 @@ pub fn decode(s: &[u8]) -> Sequence
 fn trail_count(c: u32) -> usize
     ensures { result ≡ trail_count c }
 {
-    if c < 0x80 {
-        return 0;
+    match c {
+        0..=0x7f => 0,
+        0x80..=0x7ff => 1,
+        0x800..=0xffff => 2,
+        _ => 3,
     }
-    if c < 0x800 {
-        return 1;
-    }
-    if c < 0x10000 {
-        return 2;
-    }
-    3
 }
 
 // The mark of a lead byte before `k` trail bytes.
@@ -225,7 +187,8 @@ fn mark(k: usize) -> u32
 
 // The lead byte of a code point before its `k` trail bytes.
 fn lead_byte(c: u32, k: usize) -> u8
-    requires { (k ≡ trail_count c) × (c < 0x110000) }
+    requires trails { k ≡ trail_count c }
+    requires below { c < 0x110000 }
     ensures { result ≡ lead_byte c k }
 {
     (mark(k) | (c >> (6 * k))) as u8
@@ -239,33 +202,39 @@ fn trail_byte(c: u32, k: usize) -> u8
     (0x80 | low_six(c >> (6 * k))) as u8
 }
 
-// Writes a scalar value's bytes into `out` from `at` on if they fit; otherwise `out` stays as it was.
-pub fn encode(c: u32, out: &mut [u8], at: usize) -> Put
-    ensures { (result ≡ encode_answer encode_of c out.old at)
-        × (out.new ≡ encode_into encode_of c out.old at) }
+// Writes bytes into `out` from `at` on if they fit, and answers how many; otherwise `out` stays as it was.
+// Output and place stay two arguments: it answers at any place, also past the output.
+pub(crate) fn put(out: &mut [u8], at: usize, bytes: &[u8]) -> Result<usize, PutError>
+    ensures answer { result ≡ put_answer out.old at bytes.now }
+    ensures written { out.new ≡ put_into out.old at bytes.now }
+{
+    if out.len() < bytes.len() || out.len() - bytes.len() < at {
+        return Err(PutError::NoRoom);
+    }
+    out[at..at + bytes.len()].copy_from_slice(bytes);
+    Ok(bytes.len())
+}
+
+// Writes a scalar value's bytes into `out` from `at` on if they fit, and answers how many; otherwise `out` stays as it
+// was.
+#[tactic(auto, using(crate::proofs::Puts::puts))]
+pub fn encode(c: u32, out: &mut [u8], at: usize) -> Result<usize, PutError>
+    ensures answer { result ≡ encode_answer encode_of c out.old at }
+    ensures written { out.new ≡ encode_into encode_of c out.old at }
 {
     if !is_scalar(c) {
-        return Put::NotScalar;
+        return Err(PutError::NotScalar);
     }
     let trails = trail_count(c);
-    if out.len() <= trails {
-        return Put::NoRoom;
+    let lead = lead_byte(c, trails);
+    match trails {
+        0 => put(out, at, &[lead]),
+        1 => put(out, at, &[lead, trail_byte(c, 0)]),
+        2 => put(out, at, &[lead, trail_byte(c, 1), trail_byte(c, 0)]),
+        _ => put(
+            out,
+            at,
+            &[lead, trail_byte(c, 2), trail_byte(c, 1), trail_byte(c, 0)],
+        ),
     }
-    if out.len() - trails <= at {
-        return Put::NoRoom;
-    }
-    out[at] = lead_byte(c, trails);
-    if trails == 0 {
-        return Put::Bytes(1);
-    }
-    out[at + 1] = trail_byte(c, trails - 1);
-    if trails == 1 {
-        return Put::Bytes(2);
-    }
-    out[at + 2] = trail_byte(c, trails - 2);
-    if trails == 2 {
-        return Put::Bytes(3);
-    }
-    out[at + 3] = trail_byte(c, 0);
-    Put::Bytes(4)
 }

@@ -1,6 +1,7 @@
-use mathlib.Core.Path.{◌∙◌, sym}
+use mathlib.Core.Path.{◌∙◌, sym, ap}
+use Rattle.std.specs.Option.{is_some}
 use Rattle.lists.proofs.Laws.{tests}
-use Rattle.table.specs.States.{step_at}
+use Rattle.table.specs.Meaning.{steps_of}
 use Rattle.audit.proofs.Tests.{position-unpadded, position-code}
 use Rattle.audit.specs.Audit.{is_position}
 use Rattle.audit.proofs.is_position.Goals as goal
@@ -12,12 +13,11 @@ returns-then-pos-eq0 c =
 
 pub returns-then-not-is_padded : goal.returns-then-not-is_padded
 returns-then-not-is_padded c =
-    position-unpadded (step_at c.args.states.now) c.args.pos
+    position-unpadded (steps_of c.args.table.now) c.args.pos
     c.if-pos-eq0.false (sym c.is_padded.ensures ∙ c.if-not-is_padded.true)
 
 pub returns : goal.returns
 returns c =
-    position-code (step_at c.args.states.now) c.args.pos
+    c.is_some.ensures ∙ ap is_some c.end_kind.ensures ∙ position-code (steps_of c.args.table.now) c.args.pos
     c.if-pos-eq0.false
-    (sym c.is_padded.ensures ∙ c.if-not-is_padded.false) c.end_kind.result
-    c.end_kind.ensures
+    (sym c.is_padded.ensures ∙ c.if-not-is_padded.false)

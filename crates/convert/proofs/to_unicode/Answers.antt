@@ -1,24 +1,26 @@
 -- 60 where the test fails, else the conversion.
-use mathlib.Core.Path.{sym, ap, ◌∙◌}
-use Rattle.convert.specs.Run.{end_number, end_length}
-use Rattle.convert.specs.declared.Converted.{Converted}
-use Rattle.convert.specs.Convert.{to_tested}
+use mathlib.Core.Path.{refl}
+use lib.ListN.{length}
+use Rattle.table.specs.Held.{memory_of}
+use Rattle.convert.specs.Convert.{to_run, to_tested}
+use Rattle.convert.proofs.Tested.{tested-yes, tested-no}
 use Rattle.convert.proofs.to_unicode.Goals as goal
 
-pub returns-then-not-memory_valid : goal.returns-then-not-memory_valid
+pub returns-in-Ok : goal.returns-in-Ok
 unfolding to_tested
-returns-then-not-memory_valid c =
-    let e = sym c.memory_valid.ensures
-    ∙ c.if-not-memory_valid.true in
-    (c.ended.ensures ∙ simp e, simp e, ap (λ (d : Converted). end_number d.end) c.ended.ensures ∙ simp e, ap (λ (d : Converted). end_length d.end) c.ended.ensures ∙ simp e)
+returns-in-Ok c =
+    let a = c.args in
+    let held = c.in-Ok.ensures in
+    let all =
+    tested-yes a.lent.rec (memory_of a.lent) (λ t. to_run a.scheme t a.settings a.input.now (length a.out.now)) c.to_scheme.result a.out.now
+    c.to_scheme.new.out held.valid c.in-Ok.table held.table c.to_scheme.ensures.answer c.to_scheme.ensures.written in
+    record { answer = all.0; written = all.1; number = all.2; illegal = all.3 }
 
-pub returns : goal.returns
+pub returns-in-Err : goal.returns-in-Err
 unfolding to_tested
-returns c =
-    let e = sym c.memory_valid.ensures ∙ c.if-not-memory_valid.false in (
-      c.to_scheme.ensures.0 ∙ simp e,
-      c.to_scheme.ensures.1
-          ∙ simp e,
-      ap (λ (d : Converted). end_number d.end) c.to_scheme.ensures.0 ∙ simp e,
-      ap (λ (d : Converted). end_length d.end) c.to_scheme.ensures.0 ∙ simp e,
-    )
+returns-in-Err c =
+    let a = c.args in
+    let all =
+    tested-no a.lent.rec (memory_of a.lent) (λ t. to_run a.scheme t a.settings a.input.now (length a.out.now)) c.ended.result a.out.now a.out.now
+    c.in-Err.ensures.valid c.ended.ensures refl in
+    record { answer = all.0; written = all.1; number = all.2; illegal = all.3 }

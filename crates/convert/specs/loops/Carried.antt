@@ -1,17 +1,19 @@
 -- What the inner functions of a conversion in pieces speak of: a run with the place of the mark behind it, the scheme
 -- behind the mark, and calls that no answer stands before.
+use Rattle.std.specs.Prelude.{Option as Optional}
+use Rattle.utf.specs.declared.utf8.Stop.{Stop}
 use Rattle.std.specs.Prelude.{if◌then◌else◌, ℕ, ◌≤◌, List, ◌≡◌, Bool, true, false, eqb}
+use Rattle.std.specs.Prelude.{Option, Some, None, Result, Ok, Err}
+use Rattle.utf.specs.declared.utf32.ByteOrder.{ByteOrder}
 use Rattle.std.proofs.Math.Option.{none}
 use Rattle.utf.specs.Utf32.{mark_at}
 use Rattle.utf.specs.Scheme.{ordered_by}
 use Rattle.utf.specs.declared.utf8.Stop.TheVariants as stopped
 use Rattle.utf.specs.declared.utf32.ByteOrder.TheVariants.{Big}
-use Rattle.utf.specs.declared.utf32.Mark.{Mark}
-use Rattle.utf.specs.declared.utf32.Mark.TheVariants as mark
 use Rattle.utf.specs.declared.scheme.Scheme.{Scheme}
 use Rattle.utf.specs.declared.scheme.Scheme.TheVariants as scheme
 use Rattle.table.specs.Limits.{limits}
-use Rattle.table.specs.Meaning.{steps_of}
+use Rattle.table.specs.Meaning.{Table, steps_of}
 use Rattle.table.specs.Slices.{Slices}
 use Rattle.table.specs.Memory.{table_in}
 use Rattle.table.specs.Valid.{valid}
@@ -23,16 +25,10 @@ use Rattle.convert.specs.Pieces.{refused_piece, piece_guarded}
 use Rattle.convert.specs.declared.Settings.{Settings}
 use Rattle.convert.specs.declared.pieces.Way.{Way}
 use Rattle.convert.specs.declared.pieces.Way.TheVariants.{ToUnicode, FromUnicode}
-use Rattle.convert.specs.declared.pieces.MarkPlace.{MarkPlace}
-use Rattle.convert.specs.declared.pieces.MarkPlace.TheVariants.{Ahead, Behind}
 use Rattle.convert.specs.declared.RunEnd.TheVariants.{AllRead, OutputFull, BadTable, Stopped}
-use Rattle.convert.specs.declared.pieces.Standing.{Standing}
-use Rattle.convert.specs.declared.pieces.Standing.TheVariants as stands
 use Rattle.convert.specs.declared.pieces.PieceEnd.{PieceEnd}
 use Rattle.convert.specs.declared.pieces.PieceEnd.TheVariants.{Ended, BadKept}
 use Rattle.convert.specs.declared.pieces.Kept.{Kept}
-use Rattle.convert.specs.declared.pieces.Guarded.{Guarded}
-use Rattle.convert.specs.declared.pieces.Guarded.TheVariants.{Ends, GoesOn}
 use Rattle.convert.specs.declared.pieces.Ran.{Ran}
 
 -- a run, as the functions hand it on
@@ -44,49 +40,50 @@ abbrev pub with_state : ℕ → Run → Run
 with_state st r = record { end = r.end; read = r.read; bytes = r.bytes; state = st }
 
 -- the scheme of the text from here on
-abbrev pub scheme_behind : Scheme → MarkPlace → Scheme
+abbrev pub scheme_behind : Scheme → Optional ByteOrder → Scheme
 scheme_behind scheme.Utf8 p = scheme.Utf8
 scheme_behind scheme.Utf32Be p = scheme.Utf32Be
 scheme_behind scheme.Utf32Le p = scheme.Utf32Le
-scheme_behind scheme.Utf32 Ahead = scheme.Utf32
-scheme_behind scheme.Utf32 (Behind order) = ordered_by order
+scheme_behind scheme.Utf32 None = scheme.Utf32
+scheme_behind scheme.Utf32 (Some order) = ordered_by order
 
 -- where the mark is behind n bytes of s that were read
-abbrev pub place_behind : Mark → MarkPlace
-place_behind mark.None = Behind Big
-place_behind (mark.Of order) = Behind order
+abbrev pub place_behind : Option ByteOrder → Optional ByteOrder
+place_behind None = Some Big
+place_behind (Some order) = Some order
 
-abbrev pub plain_after : MarkPlace → List ℕ → ℕ → MarkPlace
-plain_after Ahead s n = if eqb n 0 then Ahead else place_behind (mark_at s)
-plain_after (Behind order) s n = Behind order
+abbrev pub plain_after : Optional ByteOrder → List ℕ → ℕ → Optional ByteOrder
+plain_after None s n = if eqb n 0 then None else place_behind (mark_at s)
+plain_after (Some order) s n = Some order
 
-abbrev pub mark_after : Scheme → MarkPlace → List ℕ → ℕ → MarkPlace
+abbrev pub mark_after : Scheme → Optional ByteOrder → List ℕ → ℕ → Optional ByteOrder
 mark_after scheme.Utf8 p s n = p
 mark_after scheme.Utf32Be p s n = p
 mark_after scheme.Utf32Le p s n = p
 mark_after scheme.Utf32 p s n = plain_after p s n
 
 -- these bytes kept, the mark there, no answer standing
-abbrev pub carry_of : List ℕ → MarkPlace → Carry
+abbrev pub carry_of : List ℕ → Optional ByteOrder → Carry
 carry_of s p = record { bytes = s; state = state_at p; stands = none }
 
 -- the mark of plain UTF-32 is to be written
-abbrev pub is_due : Way → Scheme → MarkPlace → Bool
-is_due way e (Behind order) = false
-is_due FromUnicode e Ahead = false
-is_due ToUnicode scheme.Utf8 Ahead = false
-is_due ToUnicode scheme.Utf32Be Ahead = false
-is_due ToUnicode scheme.Utf32Le Ahead = false
-is_due ToUnicode scheme.Utf32 Ahead = true
+abbrev pub is_due : Way → Scheme → Optional ByteOrder → Bool
+is_due way e (Some order) = false
+is_due FromUnicode e None = false
+is_due ToUnicode scheme.Utf8 None = false
+is_due ToUnicode scheme.Utf32Be None = false
+is_due ToUnicode scheme.Utf32Le None = false
+is_due ToUnicode scheme.Utf32 None = true
 
 -- what every call asks first: it ends at once, whatever it would come to; or record and memory are valid, the kept
 -- state is one, and no answer stands
-abbrev pub Guards : Way → Scheme → Record → Slices → Settings → Kept → Guarded → Type 0
-Guards way e rec m settings k (Ends h) =
+abbrev pub Guards : Way → Scheme → Record → Slices → Settings → Kept → Result Table PieceEnd → Type 0
+Guards way e rec m settings k (Err h) =
     (r : PieceRun)
     → piece_guarded way e limits rec m settings k (unless (stands_in k.standing) (carry_in k) r) ≡ refused_piece h k
-Guards way e rec m settings k GoesOn =
-    (valid limits rec m ≡ true)
+Guards way e rec m settings k (Ok t) =
+    (t ≡ table_in rec m)
+    × (valid limits rec m ≡ true)
     × (kept_fits way e (steps_of (table_in rec m)) settings k ≡ true)
     × (is_nothing k.standing ≡ true)
 
@@ -99,8 +96,8 @@ is_refused (Ended (Stopped w)) = false
 is_refused BadKept = true
 
 -- the length beside a 52 that stands is at most four
-abbrev pub FewBytes : Standing → Type 0
-FewBytes stands.Nothing = Unit {0}
-FewBytes (stands.Stopped stopped.CutShort) = Unit {0}
-FewBytes (stands.Stopped (stopped.Illegal n)) = n ≤ 4
-FewBytes (stands.Stopped stopped.Unassigned) = Unit {0}
+abbrev pub FewBytes : Optional Stop → Type 0
+FewBytes None = Unit {0}
+FewBytes (Some stopped.CutShort) = Unit {0}
+FewBytes (Some (stopped.Illegal n)) = n ≤ 4
+FewBytes (Some stopped.Unassigned) = Unit {0}

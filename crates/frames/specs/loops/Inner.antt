@@ -1,18 +1,23 @@
 -- What only inner functions and laws of the program's output speak of: lengths of texts, entries as numbers, lines
 -- found piece by piece, and the claim on the audit's pages alone.
 use Rattle.std.specs.Prelude.{if◌then◌else◌, ◌≡◌, ℕ, ◌*◌, ◌≤◌, false, List, [], ◌∷◌, ◌++◌, length, ◌==◌, nat_eq}
+use Rattle.std.specs.Prelude.{Option, position}
 use Rattle.lists.specs.Ascii.{byte}
 use Rattle.lists.specs.Order.{All}
 use Rattle.table.specs.Limits.{limits}
 use Rattle.table.specs.Codes.{bytes_of}
 use Rattle.table.specs.Meaning.{Table}
 use Rattle.table.specs.Slices.{Slices}
-use Rattle.table.specs.Load.{read, accepted, loaded_by, given, left_in}
+use Rattle.table.specs.Load.{read, accepted, loaded_by, given, left_in, record_handed}
 use Rattle.audit.specs.Audit.{complete_codes, plain_list, entry_in}
 use Rattle.frames.specs.Lines.{finding_line}
 use Rattle.frames.specs.Stream.{InputLine, whole, extend, last_line}
 use Rattle.frames.specs.loops.Inputs.{Piece, Shown, pages_from, text_of, last_listed}
 use Rattle.frames.specs.Pages.{finding_lines, nothing_yet}
+
+-- the place of the first LF, if there is one
+abbrev pub first_lf : List ℕ → Option ℕ
+first_lf s = position (λ b. b == 10) s
 
 -- how many digits `hex_of` writes for n bytes
 unfoldable pub hex_count : ℕ → ℕ
@@ -38,7 +43,7 @@ abbrev pub ListedWhole : Type 0
 ListedWhole =
     (text : List ℕ) (old : Slices) (t : Table) → given limits text old ≡ read (accepted t) → (rooms : List ℕ)
     → let g = given limits text old in
-    let pages = pages_from (loaded_by g).table (left_in limits g old) nothing_yet.reached rooms in
+    let pages = pages_from (record_handed (loaded_by g)) (left_in limits g old) nothing_yet.reached rooms in
     (last_listed nothing_yet pages).more ≡ false → WholeList t pages
 
 -- a piece with as many calls as bytes, each with room for the widest line

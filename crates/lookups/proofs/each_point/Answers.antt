@@ -1,4 +1,3 @@
--- Invariant: the first k wanted are answered. Measure: what is left to look up.
 use borrow.Author.Rules.{rules}
 use Rattle.lookups.proofs.Answers.{answered-turn}
 use Rattle.lookups.proofs.each_point.Goals as goal
@@ -6,4 +5,4 @@ use Rattle.lookups.proofs.each_point.Goals as goal
 pub loop-k-preserved : goal.loop-k-preserved
 loop-k-preserved c =
     let l = c.loop-k in
-    (answered-turn _ _ _ l.k _ l.found (search rules) c.answer_point.ensures l.invariant.0, search rules)
+    answered-turn _ _ _ l.k _ l.found (search rules) c.answer_point.ensures l.invariant

@@ -1,6 +1,6 @@
 -- Which rows lead on to which, as marks: the mark at r times the limit on rows, plus k, says that row r leads on to row
 -- k.
-use Rattle.std.specs.Prelude.{ℕ, zero, suc, ◌+◌, ◌*◌, ◌/◌, ◌%◌, List, map, Bool, false, get_or, replicate, ltb, eqb}
+use Rattle.std.specs.Prelude.{ℕ, zero, suc, ◌+◌, ◌*◌, ◌/◌, ◌%◌, List, map, Bool, false, get_or, ltb, eqb}
 use Rattle.lists.specs.Pick.{◌and◌, ◌implies◌}
 use Rattle.lists.specs.Order.{up_from}
 use Rattle.table.specs.Limits.{limits}
@@ -23,9 +23,6 @@ lead_mark n step j =
 -- the marks of the first n rows; the marks of other rows are not set
 unfoldable pub lead_marks : ℕ → Rows → List Bool
 lead_marks n step = map (lead_mark n step) (up_from 0 (limits.rows * limits.rows))
-
-unfoldable pub no_marks : List Bool
-no_marks = replicate (limits.rows * limits.rows) false
 
 -- w holds of every row that a row leads on to
 unfoldable pub marked : List Bool → (ℕ → Bool) → ℕ → Bool

@@ -1,6 +1,6 @@
 -- Which rows are productive: some code starts in them. The next complete code, found by passing over rows that are not.
 use Rattle.std.specs.Prelude.{if◌then◌else◌, ℕ, zero, suc, ◌+◌, ◌*◌, ◌/◌, ◌%◌, ◌≡◌, List}
-use Rattle.std.specs.Prelude.{[], ◌∷◌, map, Bool, true, false, not, ltb, eqb, get_or}
+use Rattle.std.specs.Prelude.{[], ◌∷◌, map, Bool, true, false, not, ltb, eqb, get_or, Option}
 use Rattle.lists.specs.Pick.{◌and◌}
 use Rattle.lists.specs.Order.{up_from}
 use Rattle.table.specs.Limits.{limits}
@@ -11,7 +11,6 @@ use Rattle.lists.specs.Strings.{after}
 use Rattle.table.specs.declared.states.Step.{Step}
 use Rattle.table.specs.declared.states.Step.TheVariants.{Illegal, Ends, Leads}
 use Rattle.table.specs.declared.states.Code.{Code}
-use Rattle.table.specs.declared.codes.Next.{Next}
 
 -- a code ends here, or goes on in a row of which w holds
 abbrev pub ends_or_leads : (ℕ → Bool) → Step → Bool
@@ -50,7 +49,7 @@ codes_marked marks step zero row = []
 codes_marked marks step (suc f) row = scan (on_marked marks f (codes_marked marks step f)) step row 256 0
 
 -- the first of them after p
-abbrev pub next_marked : List ℕ → Rows → ℕ → List ℕ → Next
+abbrev pub next_marked : List ℕ → Rows → ℕ → List ℕ → Option Code
 next_marked marks step row p = first_code (after p (codes_marked marks step longest row))
 
 -- the codes of a row led to with f bytes to come

@@ -3,25 +3,27 @@
 -- Contents: keys as the code's struct; a head, lines and memory that are proper; `Holding`; what stays; a step that was
 -- taken.
 use Rattle.std.specs.Prelude.{if◌then◌else◌, ℕ, ◌≤◌, ◌≡◌, true, false, List, length, take, drop, ltb}
+use Rattle.std.specs.Prelude.{Result, Ok, Err, ⊤}
 use Rattle.std.proofs.Math.Option.{Option, none, some}
 use Rattle.lists.specs.Order.{All}
-use Rattle.table.specs.Limits.{Limits, needed}
+use Rattle.table.specs.Limits.{Limits, limits, needed}
 use Rattle.table.specs.Cells.{Cell}
 use Rattle.table.specs.Codes.{code_of, bytes_of}
 use Rattle.table.specs.Meaning.{Line}
 use Rattle.table.specs.Rules.{t6, t9}
-use Rattle.table.specs.Stored.{padded}
-use Rattle.table.specs.Slices.{Slices}
-use Rattle.table.specs.Memory.{sorted, SlicesHold, numbers_of, sub1_of, sub1_in, ProperLine}
+use Rattle.table.specs.Stored.{Stored, padded}
+use Rattle.table.specs.Slices.{Slices, slices, Lent}
+use Rattle.table.specs.Memory.{sorted, stored_list, SlicesHold, numbers_of, sub1_of, sub1_in, ProperLine}
 use Rattle.lists.specs.Place.{filled}
 use Rattle.table.specs.Keys.{sbcs, mbcs, class_by, Keys, min_of, max_of, subchar_of, Class as ConvClass}
 use Rattle.table.specs.Load.{LineStep, goes_on, stop}
+use Rattle.table.specs.loops.Search.{Kept}
 use Rattle.table.specs.declared.header.Head.{Head}
 use Rattle.table.specs.declared.load.Phase.{Phase}
-use Rattle.table.specs.declared.load.Progress.{Progress}
-use Rattle.table.specs.declared.load.LineOutcome.{LineOutcome}
-use Rattle.table.specs.declared.load.LineOutcome.TheVariants as outcome
+use Rattle.table.specs.declared.load.Phase.TheVariants.{Header, Mappings}
+use Rattle.table.specs.declared.load.Loader.{Loader}
 use Rattle.table.specs.declared.valid.Record.{Record}
+use Rattle.table.specs.declared.load.Refusal.{Refusal}
 
 -- the value x of a key for which the code keeps the number n: 0 where the key has not come
 abbrev pub kept : {A : Type 0} → ℕ → A → Option A
@@ -121,14 +123,46 @@ pub record Beyond (lim : Limits) (m m' : Slices) : Type 0 where
   pub infos-rest : drop lim.mappings m'.infos ≡ drop lim.mappings m.infos
   pub order-rest : drop lim.mappings m'.order ≡ drop lim.mappings m.order
 
-abbrev pub progress : Phase → Head → ℕ → Progress
-progress p h n = record { phase = p; head = h; mappings = n }
+-- the slices that a loader reads into
+abbrev pub slices_in : Loader → Slices
+slices_in l = slices l.states.now l.codes.now l.infos.now l.order.now
 
--- the function answers and leaves what the step of the definition says
-abbrev pub StepTaken : Limits → LineStep → LineOutcome → Slices → Type 0
-StepTaken lim (stop x) r m = r ≡ outcome.Stop x
-StepTaken lim (goes_on g) r m =
-    (h : Head)
-    × (r ≡ outcome.On (progress g.phase h (length g.lines)))
-    × (keys_in h ≡ g.head)
-    × Holding lim h (length g.lines) g.rows g.lines m
+-- the mappings that it holds, in the form that insertion needs
+abbrev pub stored_in : Loader → List Stored
+stored_in l = stored_list (take l.mappings l.codes.now) (take l.mappings l.infos.now)
+
+abbrev pub KeptIn : Loader → Type 0
+KeptIn l = Kept limits.mappings l.mappings l.codes.now l.infos.now l.order.now
+
+-- the two are of the same slices, whatever these hold
+abbrev pub SameSlices : Loader → Loader → Type 0
+SameSlices a b =
+    (b.states.ghost_name ≡ a.states.ghost_name)
+    × (b.codes.ghost_name ≡ a.codes.ghost_name)
+    × (b.infos.ghost_name ≡ a.infos.ghost_name)
+    × (b.order.ghost_name ≡ a.order.ghost_name)
+    × (length b.states.now ≡ length a.states.now)
+    × (length b.codes.now ≡ length a.codes.now)
+    × (length b.infos.now ≡ length a.infos.now)
+    × (length b.order.now ≡ length a.order.now)
+
+-- the loader answers, and it is left, as the step of the definition says: part, header, count of mappings and memory
+abbrev pub StepTaken : Limits → LineStep → Result ⊤ Refusal → Phase → Head → ℕ → Slices → Type 0
+StepTaken lim (stop x) r p h n m = r ≡ Err x
+StepTaken lim (goes_on g) r p h n m =
+    (r ≡ Ok tt) × (p ≡ g.phase) × (keys_in h ≡ g.head) × Holding lim h n g.rows g.lines m
+
+abbrev pub Taken : LineStep → Result ⊤ Refusal → Loader → Type 0
+Taken step r l = StepTaken limits step r l.phase l.head l.mappings (slices_in l)
+
+-- a loader before CHARMAP, and between CHARMAP and END CHARMAP
+pub record IsHeader (l : Loader) : Type 0 where
+  pub phase : l.phase ≡ Header
+  pub none-yet : l.mappings ≡ 0
+  pub lent : Lent limits (slices_in l)
+  pub held : Held limits l.head l.mappings (slices_in l)
+
+pub record IsBody (l : Loader) : Type 0 where
+  pub phase : l.phase ≡ Mappings
+  pub lent : Lent limits (slices_in l)
+  pub held : Held limits l.head l.mappings (slices_in l)

@@ -87,6 +87,21 @@ abbrev pub after_look : ℕ → ℕ → Spot → ℕ → Spot
 after_look key sought s next =
     if ltb key sought then record { at = next; gap = s.gap } else record { at = s.at; gap = key - sought }
 
+-- what is told of each of n places is a key
+abbrev pub Tells : ℕ → (ℕ → ℕ → Type 0) → (ℕ → ℕ) → Type 0
+Tells n Told keys = (k r : ℕ) → k < n → Told k r → r ≡ keys k
+
+-- the keys before the place are less than the one sought, those from it on are not
+abbrev pub Parts : (ℕ → ℕ) → ℕ → ℕ → ℕ → Type 0
+Parts keys sought n place =
+    (place ≤ n) × ((at : ℕ) → at < n → (keys at < sought → at < place) × (sought ≤ keys at → place ≤ at))
+
+-- where a search among n keys ends: the gap there, and the place that parts them, if one does
+pub record Halved (keys : ℕ → ℕ) (sought n : ℕ) (s : Spot) : Type 0 where
+  pub inside : s.at ≤ n
+  pub ends : GapAt (KeyGap keys sought) n s.at s.gap
+  pub parted : (place : ℕ) → Parts keys sought n place → s.at ≡ place
+
 -- where a stored mapping belongs in either order
 abbrev pub place_in : Stored → List Stored → ℕ
 place_in e es = prefix_length (λ x. less x e) es

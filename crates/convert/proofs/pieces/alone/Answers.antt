@@ -3,8 +3,6 @@ use mathlib.Core.Path.{sym, ap, ◌∙◌}
 use mathlib.Core.List.{List, []}
 use native.Mathlib.Omega.{arith}
 use lib.ListN.{length}
-use Rattle.table.specs.Slices.{slices}
-use Rattle.table.specs.Memory.{table_in}
 use Rattle.convert.specs.Run.{SequenceStep, Run, run_of, put_bytes}
 use Rattle.convert.specs.Pieces.{is_cut_short, piece_on, state_at, step_in}
 use Rattle.convert.specs.declared.pieces.Ran.{Ran}
@@ -18,7 +16,7 @@ use Rattle.convert.proofs.pieces.alone.Goals as goal
 pub settle-requires : goal.settle-requires
 settle-requires c =
     let step : SequenceStep = let a = c.args in
-    step_in a.way a.scheme (table_in a.rec (slices a.states.now a.codes.now a.infos.now a.order.now)) a.settings in
+    step_in a.way a.scheme a.table.now a.settings in
     let a = c.args in
     let s = a.input.now in
     let so = step_in-sound a.way a.scheme _ a.settings in
@@ -35,7 +33,7 @@ pub returns : goal.returns
 unfolding piece_on
 returns c =
     let step : SequenceStep = let a = c.args in
-    step_in a.way a.scheme (table_in a.rec (slices a.states.now a.codes.now a.infos.now a.order.now)) a.settings in
+    step_in a.way a.scheme a.table.now a.settings in
     let run : Run = let a = c.args in run_of step (state_at a.mark) 0 a.input.now (length a.out.now) in
     let a = c.args in
     (c.settle.ensures run c.run_in-ran.ensures.0, c.run_in-ran.ensures.1 ∙ ap (λ (bs : List _). put_bytes bs a.out.now) (sym (pieced_by-bytes [] a.input.now run)))

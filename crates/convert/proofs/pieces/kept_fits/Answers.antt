@@ -1,7 +1,8 @@
 -- The tests, one after the other.
 use mathlib.Core.Path.{◌≡◌, sym, ap, ◌∙◌}
 use mathlib.Core.Bool.{Bool, true}
-use Rattle.table.specs.States.{Rows, step_at}
+use Rattle.table.specs.States.{Rows}
+use Rattle.table.specs.Meaning.{steps_of}
 use lib.Dec.{eqb}
 use Rattle.lists.specs.Pick.{◌and◌}
 use Rattle.convert.specs.Pieces.{is_held, is_nothing, mark_fits}
@@ -10,13 +11,13 @@ use Rattle.convert.proofs.pieces.kept_fits.Goals as goal
 
 pub returns-then-not-is_held : goal.returns-then-not-is_held
 returns-then-not-is_held c =
-    let rows : Rows = step_at c.args.states.now in
+    let rows : Rows = steps_of c.args.table.now in
     let a = c.args in
     kept_fits-held a.way a.scheme rows a.settings a.kept (sym c.is_held.ensures ∙ c.if-not-is_held.true)
 
 pub returns-then-not-mark_fits : goal.returns-then-not-mark_fits
 returns-then-not-mark_fits c =
-    let rows : Rows = step_at c.args.states.now in
+    let rows : Rows = steps_of c.args.table.now in
     let held : is_held c.args.kept.bytes ≡ true = sym c.is_held.ensures ∙ c.if-not-is_held.false in
     let marks : let a = c.args in mark_fits a.way a.scheme c.is_untouched.result a.kept.mark ≡ c.mark_fits.result = sym c.mark_fits.ensures in
     let untouched : (b : Bool) → c.mark_fits.result ≡ b → let a = c.args in mark_fits a.way a.scheme (eqb a.kept.bytes.len 0 and is_nothing a.kept.standing) a.kept.mark ≡ b = λ b e. let a = c.args in
@@ -26,7 +27,7 @@ returns-then-not-mark_fits c =
 
 pub returns-then-not-standing_fits : goal.returns-then-not-standing_fits
 returns-then-not-standing_fits c =
-    let rows : Rows = step_at c.args.states.now in
+    let rows : Rows = steps_of c.args.table.now in
     let held : is_held c.args.kept.bytes ≡ true = sym c.is_held.ensures ∙ c.if-not-is_held.false in
     let marks : let a = c.args in mark_fits a.way a.scheme c.is_untouched.result a.kept.mark ≡ c.mark_fits.result = sym c.mark_fits.ensures in
     let untouched : (b : Bool) → c.mark_fits.result ≡ b → let a = c.args in mark_fits a.way a.scheme (eqb a.kept.bytes.len 0 and is_nothing a.kept.standing) a.kept.mark ≡ b = λ b e. let a = c.args in
@@ -37,7 +38,7 @@ returns-then-not-standing_fits c =
 
 pub returns : goal.returns
 returns c =
-    let rows : Rows = step_at c.args.states.now in
+    let rows : Rows = steps_of c.args.table.now in
     let held : is_held c.args.kept.bytes ≡ true = sym c.is_held.ensures ∙ c.if-not-is_held.false in
     let marks : let a = c.args in mark_fits a.way a.scheme c.is_untouched.result a.kept.mark ≡ c.mark_fits.result = sym c.mark_fits.ensures in
     let untouched : (b : Bool) → c.mark_fits.result ≡ b → let a = c.args in mark_fits a.way a.scheme (eqb a.kept.bytes.len 0 and is_nothing a.kept.standing) a.kept.mark ≡ b = λ b e. let a = c.args in

@@ -6,8 +6,6 @@ use native.Mathlib.Omega.{arith}
 use lib.ListN.{length, take, drop, length-append}
 use lib.Seq.{take_at, drop_at}
 use Rattle.table.specs.Codes.{bytes_of}
-use Rattle.table.specs.Slices.{slices}
-use Rattle.table.specs.Memory.{table_in}
 use Rattle.table.proofs.Packing.{length-unpacked, unpacked-none}
 use Rattle.convert.specs.Run.{SequenceStep, put_bytes}
 use Rattle.convert.specs.Pieces.{PieceRun, piece_on, pieced_of, step_in}
@@ -17,7 +15,7 @@ use Rattle.convert.proofs.pieces.through.Goals as goal
 pub returns-then-bytes-eq0 : goal.returns-then-bytes-eq0
 returns-then-bytes-eq0 c =
     let step : SequenceStep = let a = c.args in
-    step_in a.way a.scheme (table_in a.rec (slices a.states.now a.codes.now a.infos.now a.order.now)) a.settings in
+    step_in a.way a.scheme a.table.now a.settings in
     let call : List ℕ → PieceRun = λ old. let a = c.args in piece_on step (carry_of old a.mark) a.input.now (length a.out.now) in
     let a = c.args in
     let e : [] ≡ bytes_of a.bytes = sym (unpacked-none a.bytes.len a.bytes.bits (omega (arith, c.if-bytes-eq0.true))) in (
@@ -32,14 +30,14 @@ through_joined-requires c =
     let n = a.bytes.len in
     let e = c.join-n.ensures.1 in
     let l = ap length e ∙ length-append (bytes_of a.bytes) (take 3 a.input.now) in
-    (c.requires.0, c.requires.1, omega (arith, l, long), ap (drop n) e ∙ drop_at (bytes_of a.bytes) (take 3 a.input.now) n long)
+    (c.requires, omega (arith, l, long), ap (drop n) e ∙ drop_at (bytes_of a.bytes) (take 3 a.input.now) n long)
 
 pub returns : goal.returns
 returns c =
     let joined : List ℕ = take c.join-n.result c.join-n.new.buffer in
     let long : length (bytes_of c.args.bytes) ≡ c.args.bytes.len = length-unpacked c.args.bytes.len c.args.bytes.bits in
     let step : SequenceStep = let a = c.args in
-    step_in a.way a.scheme (table_in a.rec (slices a.states.now a.codes.now a.infos.now a.order.now)) a.settings in
+    step_in a.way a.scheme a.table.now a.settings in
     let call : List ℕ → PieceRun = λ old. let a = c.args in piece_on step (carry_of old a.mark) a.input.now (length a.out.now) in
     let a = c.args in
     let n = a.bytes.len in

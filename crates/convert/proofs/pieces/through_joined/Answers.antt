@@ -4,8 +4,6 @@ use Prim.Native.Nat.{ℕ, ◌-◌, ◌≤◌, ◌<◌}
 use mathlib.Core.List.{List, [], ◌++◌}
 use native.Mathlib.Omega.{arith}
 use lib.ListN.{length, take, drop, length-drop}
-use Rattle.table.specs.Slices.{slices}
-use Rattle.table.specs.Memory.{table_in}
 use Rattle.convert.specs.Run.{SequenceStep, Run, run_of, put_bytes}
 use Rattle.convert.specs.Pieces.{is_cut_short, pieced_by, piece_on, state_at, step_in}
 use Rattle.convert.specs.declared.pieces.Pieced.{Pieced}
@@ -28,7 +26,7 @@ use Rattle.convert.proofs.pieces.through_joined.Goals as goal
 pub settle-requires : goal.settle-requires
 settle-requires c =
     let step : SequenceStep = let a = c.args in
-    step_in a.way a.scheme (table_in a.rec (slices a.states.now a.codes.now a.infos.now a.order.now)) a.settings in
+    step_in a.way a.scheme a.table.now a.settings in
     let so : Sound step = let a = c.args in step_in-sound a.way a.scheme _ a.settings in
     let pe : Pieceable step = let a = c.args in step_in-pieceable a.way a.scheme _ a.settings in
     let over : Run = let a = c.args in run_of step (state_at a.mark) 0 a.joined.now (length a.out.now) in
@@ -38,8 +36,8 @@ settle-requires c =
     let so = step_in-sound a.way a.scheme _ a.settings in
     let pe = step_in-pieceable a.way a.scheme _ a.settings in
     let ends = ap (λ (x : Ran). is_cut_short x.done.end) c.run_in-over.ensures.0 in (
-      c.requires.2,
       c.requires.1,
+      c.requires.0,
       omega (arith, reads, reads-within step so s (state_at a.mark) (length a.out.now)),
       λ q. omega (arith, reads, cut-short-few step so pe s (state_at a.mark) (length a.out.now) (sym ends ∙ q)),
     )
@@ -47,12 +45,12 @@ settle-requires c =
 pub returns-then-front-old : goal.returns-then-front-old
 returns-then-front-old c =
     let step : SequenceStep = let a = c.args in
-    step_in a.way a.scheme (table_in a.rec (slices a.states.now a.codes.now a.infos.now a.order.now)) a.settings in
+    step_in a.way a.scheme a.table.now a.settings in
     let over : Run = let a = c.args in run_of step (state_at a.mark) 0 a.joined.now (length a.out.now) in
     let so : Sound step = let a = c.args in step_in-sound a.way a.scheme _ a.settings in
     let pe : Pieceable step = let a = c.args in step_in-pieceable a.way a.scheme _ a.settings in
     let inside : over.read < c.args.old → let a = c.args in pieced_by (take a.old a.joined.now) (drop a.old a.joined.now) over ≡ piece_on step (carry_of (take a.old a.joined.now) a.mark) a.input.now (length a.out.now) = λ i. let a = c.args in
-    through-inside step so pe a.joined.now a.input.now a.old (state_at a.mark) (length a.out.now) c.requires.2 c.requires.3 i in
+    through-inside step so pe a.joined.now a.input.now a.old (state_at a.mark) (length a.out.now) c.requires.1 c.requires.2 i in
     let reads : c.run_in-over.result.done.read ≡ over.read = ap (λ (x : Ran). x.done.read) c.run_in-over.ensures.0 in
     let a = c.args in
     let i = inside (omega (arith, c.if-front-old.true, reads)) in (
@@ -66,7 +64,7 @@ pub slice_bounds-alone-count : goal.slice_bounds-alone-count
 slice_bounds-alone-count c =
     let used : ℕ = c.run_in-over.result.done.read - c.args.old in
     let step : SequenceStep = let a = c.args in
-    step_in a.way a.scheme (table_in a.rec (slices a.states.now a.codes.now a.infos.now a.order.now)) a.settings in
+    step_in a.way a.scheme a.table.now a.settings in
     let over : Run = let a = c.args in run_of step (state_at a.mark) 0 a.joined.now (length a.out.now) in
     let reads : c.run_in-over.result.done.read ≡ over.read = ap (λ (x : Ran). x.done.read) c.run_in-over.ensures.0 in
     let so : Sound step = let a = c.args in step_in-sound a.way a.scheme _ a.settings in
@@ -75,7 +73,7 @@ slice_bounds-alone-count c =
     omega (
       arith,
       reads,
-      through-used step so pe a.joined.now a.input.now a.old (state_at a.mark) (length a.out.now) c.requires.2 c.requires.3,
+      through-used step so pe a.joined.now a.input.now a.old (state_at a.mark) (length a.out.now) c.requires.1 c.requires.2,
     ) in
     used-within
 
@@ -83,7 +81,7 @@ pub slice_bounds-alone-start : goal.slice_bounds-alone-start
 slice_bounds-alone-start c =
     let used : ℕ = c.run_in-over.result.done.read - c.args.old in
     let step : SequenceStep = let a = c.args in
-    step_in a.way a.scheme (table_in a.rec (slices a.states.now a.codes.now a.infos.now a.order.now)) a.settings in
+    step_in a.way a.scheme a.table.now a.settings in
     let over : Run = let a = c.args in run_of step (state_at a.mark) 0 a.joined.now (length a.out.now) in
     let reads : c.run_in-over.result.done.read ≡ over.read = ap (λ (x : Ran). x.done.read) c.run_in-over.ensures.0 in
     let so : Sound step = let a = c.args in step_in-sound a.way a.scheme _ a.settings in
@@ -92,14 +90,14 @@ slice_bounds-alone-start c =
     omega (
       arith,
       reads,
-      through-used step so pe a.joined.now a.input.now a.old (state_at a.mark) (length a.out.now) c.requires.2 c.requires.3,
+      through-used step so pe a.joined.now a.input.now a.old (state_at a.mark) (length a.out.now) c.requires.1 c.requires.2,
     ) in
     used-within
 
 pub overflow_add-result : goal.overflow_add-result
 overflow_add-result c =
     let step : SequenceStep = let a = c.args in
-    step_in a.way a.scheme (table_in a.rec (slices a.states.now a.codes.now a.infos.now a.order.now)) a.settings in
+    step_in a.way a.scheme a.table.now a.settings in
     let used : ℕ = c.run_in-over.result.done.read - c.args.old in
     let old-out : List ℕ = c.args.out.now in
     let rest : PieceRun = let a = c.args in
@@ -128,7 +126,7 @@ overflow_add-result c =
     omega (
       arith,
       reads,
-      through-used step so pe a.joined.now a.input.now a.old (state_at a.mark) (length a.out.now) c.requires.2 c.requires.3,
+      through-used step so pe a.joined.now a.input.now a.old (state_at a.mark) (length a.out.now) c.requires.1 c.requires.2,
     ) in
     let a = c.args in
     let r = ap (λ (x : Pieced). x.read) gave.0 in
@@ -137,14 +135,14 @@ overflow_add-result c =
       r,
       used-within,
       length-drop used a.input.now,
-      c.well_formed.1.1.1.1.1.1.1.1.1.0.0,
+      c.well_formed.1.1.1.1.1.0.0,
       piece_on-within step so (carry_of [] c.run_in-over.result.mark) (drop used a.input.now) (length old-out - c.run_in-over.result.done.written),
     )
 
 pub returns : goal.returns
 returns c =
     let step : SequenceStep = let a = c.args in
-    step_in a.way a.scheme (table_in a.rec (slices a.states.now a.codes.now a.infos.now a.order.now)) a.settings in
+    step_in a.way a.scheme a.table.now a.settings in
     let over : Run = let a = c.args in run_of step (state_at a.mark) 0 a.joined.now (length a.out.now) in
     let reads : c.run_in-over.result.done.read ≡ over.read = ap (λ (x : Ran). x.done.read) c.run_in-over.ensures.0 in
     let used : ℕ = c.run_in-over.result.done.read - c.args.old in
@@ -177,11 +175,11 @@ returns c =
     let past : a.old ≤ over.read = omega (arith, reads, c.if-front-old.false) in
     let place = run-state a.way a.scheme _ a.settings a.mark a.joined.now (length a.out.now) in
     let r : Run = record { end = AllRead; read = 0; bytes = rest.bytes; state = 0 } in (
-      onward-pieced step so pe a.joined.now a.input.now a.old (state_at a.mark) (length a.out.now) c.requires.2 c.requires.3
+      onward-pieced step so pe a.joined.now a.input.now a.old (state_at a.mark) (length a.out.now) c.requires.1 c.requires.2
           past c.run_in-over.result c.run_in-over.ensures.0 place c.alone-done.result gave.0,
       put-behind over.bytes n count old-out new-out put r (length new-out - n) _
           (omega (arith, written-within)) gave.1
           ∙ ap (λ (bs : List ℕ). put_bytes bs old-out)
-          (onward-bytes step so pe a.joined.now a.input.now a.old (state_at a.mark) (length a.out.now) c.requires.2 c.requires.3
+          (onward-bytes step so pe a.joined.now a.input.now a.old (state_at a.mark) (length a.out.now) c.requires.1 c.requires.2
           past c.run_in-over.result c.run_in-over.ensures.0 place),
     )

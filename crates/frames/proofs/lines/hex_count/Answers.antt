@@ -1,11 +1,11 @@
-use Rattle.std.proofs.Common.{sym}
-use Rattle.frames.proofs.Hex.{count_none, count-some}
+use Rattle.lists.proofs.Laws.{tests}
+use Rattle.frames.specs.loops.Inner.{hex_count}
 use Rattle.frames.proofs.lines.hex_count.Goals as goal
 
 pub returns-then-n-eq0 : goal.returns-then-n-eq0
-returns-then-n-eq0 c =
-    sym (count_none c.args.n c.if-n-eq0.true)
+unfolding hex_count
+returns-then-n-eq0 c = search tests
 
-pub returns : goal.returns
-returns c =
-    sym (count-some c.args.n c.if-n-eq0.false)
+pub returns-else-n-eq0 : goal.returns-else-n-eq0
+unfolding hex_count
+returns-else-n-eq0 c = search tests

@@ -1,24 +1,15 @@
-use Rattle.std.proofs.Common.{sym, ◌∙◌}
-use Rattle.frames.proofs.Steps.{hold-long, hold-more, hold-full}
-use Rattle.frames.proofs.Writes.{was-put, was-full}
+use Rattle.std.proofs.Common.{◌∙◌}
+use Rattle.frames.specs.Stream.{partial_in, partial_of, kept_in}
+use Rattle.frames.proofs.Steps.{hold-by}
 use Rattle.frames.proofs.lines.hold.Goals as goal
 
-pub returns-then-held : goal.returns-then-held
-returns-then-held c =
-    hold-long c.args.line.now c.args.part.now
-    c.args.held c.if-held.true
+pub returns-in_err-held : goal.returns-in_err-held
+unfolding partial_in partial_of kept_in
+returns-in_err-held c =
+    record { count = c.from_residual.ensures ∙ rw c.in_err-held.was; memory = rw c.in_err-held.was }
 
-pub returns-in-Put : goal.returns-in-Put
-returns-in-Put c =
+pub returns : goal.returns
+returns c =
     let a = c.args in
-    let r = was-put a.line.now a.held.len a.part.now c.in-Put.next
-    (sym c.in-Put.is ∙ c.put_bytes-room.ensures.0) in
-    let q = hold-more a.line.now a.part.now a.held c.if-held.false r.0 in
-    (rw r.1 q.0, c.put_bytes-room.ensures.1 ∙ r.2 ∙ q.1)
-
-pub returns-in-Full : goal.returns-in-Full
-returns-in-Full c =
-    let a = c.args in
-    let r = was-full a.line.now a.held.len a.part.now (sym c.in-Full.is ∙ c.put_bytes-room.ensures.0) in
-    let q = hold-full a.line.now a.part.now a.held c.if-held.false r.0 in
-    (q.0, c.put_bytes-room.ensures.1 ∙ r.1 ∙ q.1)
+    let e = hold-by a.line.now a.part.now c.in_ok-held.field-0 in
+    record { count = c.put_bytes.ensures.0 ∙ rw c.in_ok-held.was e.0; memory = c.put_bytes.ensures.1 ∙ rw c.in_ok-held.was e.1 }

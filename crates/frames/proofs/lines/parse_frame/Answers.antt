@@ -4,20 +4,23 @@ use Rattle.frames.proofs.lines.parse_frame.Goals as goal
 
 pub returns-then-is_dash : goal.returns-then-is_dash
 returns-then-is_dash c =
-    frame-dash c.args.line.now c.args.out.now (sym c.is_dash.ensures ∙ c.if-is_dash.true)
+    let r = frame-dash c.args.line.now c.args.out.now (sym c.is_dash.ensures ∙ c.if-is_dash.true) in
+    record { answer = r.0; written = r.1 }
 
 pub returns-then-not-is_hex : goal.returns-then-not-is_hex
 returns-then-not-is_hex c =
-    frame-bad c.args.line.now c.args.out.now
+    let r = frame-bad c.args.line.now c.args.out.now
     (sym c.is_dash.ensures ∙ c.if-is_dash.false)
-    (sym c.is_hex.ensures ∙ c.if-not-is_hex.true)
+    (sym c.is_hex.ensures ∙ c.if-not-is_hex.true) in
+    record { answer = r.0; written = r.1 }
 
 pub returns-then-out-count : goal.returns-then-out-count
 returns-then-out-count c =
-    frame-full c.args.line.now c.args.out.now
+    let r = frame-full c.args.line.now c.args.out.now
     (sym c.is_dash.ensures ∙ c.if-is_dash.false)
     (sym c.is_hex.ensures ∙ c.if-not-is_hex.false)
-    (omega arith)
+    (omega arith) in
+    record { answer = r.0; written = r.1 }
 
 pub write_frame-requires : goal.write_frame-requires
 write_frame-requires c =
@@ -32,4 +35,4 @@ returns c =
     (sym c.is_dash.ensures ∙ c.if-is_dash.false)
     (sym c.is_hex.ensures ∙ c.if-not-is_hex.false)
     (omega arith) in
-    (r.0, c.write_frame.ensures ∙ r.1)
+    record { answer = r.0; written = c.write_frame.ensures ∙ r.1 }

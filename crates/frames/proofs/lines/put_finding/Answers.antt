@@ -30,7 +30,7 @@ returns c =
     let code = unpacked a.len a.bits in
     let k : hex_count (length code) ≡ hex_count a.len = ap hex_count (length-unpacked a.len a.bits) in
     let w = wrote-more (wrote-start a.out.now a.at) (hex_of code) c.write_code-p.result c.write_code-p.new.out
-    c.write_code-p.ensures.1 (c.write_code-p.ensures.0 ∙ omega (arith, k, length-hex_of code)) in
-    let v = wrote-number w (32 ∷ []) a.cause d.result c.write_number-q.result c.write_number-q.new.out d.ensures.0 c.write_number-q.ensures.1 c.write_number-q.ensures.0 in
+    c.write_code-p.ensures.written (c.write_code-p.ensures.place ∙ omega (arith, k, length-hex_of code)) in
+    let v = wrote-number w (32 ∷ []) a.cause d.result c.write_number-q.result c.write_number-q.new.out d.ensures.count c.write_number-q.ensures.written c.write_number-q.ensures.place in
     let u = wrote-more v (10 ∷ []) (c.write_number-q.result + 1) (set c.write_number-q.new.out c.write_number-q.result 10) refl refl in
     wrote-all u (omega (arith, length-finding code a.cause))

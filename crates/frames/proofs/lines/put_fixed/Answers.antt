@@ -12,6 +12,6 @@ pub returns : goal.returns
 unfolding fixed_line
 returns c =
     let a = c.args in
-    let w = wrote-more (wrote-start a.out.now a.at) a.text.now c.write_bytes-next.result c.write_bytes-next.new.out c.write_bytes-next.ensures.1 c.write_bytes-next.ensures.0 in
+    let w = wrote-more (wrote-start a.out.now a.at) a.text.now c.write_bytes-next.result c.write_bytes-next.new.out c.write_bytes-next.ensures.written c.write_bytes-next.ensures.place in
     let v = wrote-more w (10 ∷ []) (c.write_bytes-next.result + 1) (set c.write_bytes-next.new.out c.write_bytes-next.result 10) refl refl in
     wrote-all v (omega (arith, length-fixed a.text.now))

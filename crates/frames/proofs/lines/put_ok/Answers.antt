@@ -14,6 +14,6 @@ returns c =
     let a = c.args in
     let d = c.decimal_count-a in
     let w = wrote-number (wrote-start a.out.now a.at) (84 ∷ 65 ∷ 66 ∷ 76 ∷ 69 ∷ 32 ∷ 79 ∷ 75 ∷ 32 ∷ [])
-    a.count d.result c.write_number-p.result c.write_number-p.new.out d.ensures.0 c.write_number-p.ensures.1 c.write_number-p.ensures.0 in
+    a.count d.result c.write_number-p.result c.write_number-p.new.out d.ensures.count c.write_number-p.ensures.written c.write_number-p.ensures.place in
     let v = wrote-more w (10 ∷ []) (c.write_number-p.result + 1) (set c.write_number-p.new.out c.write_number-p.result 10) refl refl in
     wrote-all v (omega (arith, length-ok a.count))

@@ -16,7 +16,7 @@ returns c =
     let d = c.decimal_count-a in
     let e = c.decimal_count-b in
     let w = wrote-number (wrote-start a.out.now a.at) a.first.now a.n d.result c.write_number-p.result
-    c.write_number-p.new.out d.ensures.0 c.write_number-p.ensures.1 c.write_number-p.ensures.0 in
-    let v = wrote-number w a.second.now a.m e.result c.write_number-q.result c.write_number-q.new.out e.ensures.0 c.write_number-q.ensures.1 c.write_number-q.ensures.0 in
+    c.write_number-p.new.out d.ensures.count c.write_number-p.ensures.written c.write_number-p.ensures.place in
+    let v = wrote-number w a.second.now a.m e.result c.write_number-q.result c.write_number-q.new.out e.ensures.count c.write_number-q.ensures.written c.write_number-q.ensures.place in
     let u = wrote-more v (10 ∷ []) (c.write_number-q.result + 1) (set c.write_number-q.new.out c.write_number-q.result 10) refl refl in
     wrote-all u (omega (arith, length_two a.first.now a.n a.second.now a.m))

@@ -1,5 +1,4 @@
--- Invariant: storing the lines left gives what storing all of them gives. Measure: the entries left.
-use Rattle.std.proofs.Common.{◌≡◌, ℕ, sym, ap, ◌∙◌, arith}
+use Rattle.std.proofs.Common.{◌≡◌, ℕ, sym, ap, ◌∙◌}
 use Rattle.table.specs.Codes.{bytes_of}
 use Rattle.audit.specs.Audit.{entry_in}
 use Rattle.audit.specs.declared.AuditEntry.{AuditEntry}
@@ -12,21 +11,22 @@ use Rattle.frames.proofs.pages.put_findings.Goals as goal
 line-is : (e : AuditEntry) (n : ℕ) → e ≡ entry_in n → finding_line (bytes_of e.code) e.cause ≡ entry_line n
 line-is e n q = ap (λ (x : AuditEntry). finding_line (bytes_of x.code) x.cause) q
 
-pub returns-in-Full : goal.returns-in-Full
-returns-in-Full c =
-    let fits_next : ⊥ = let l = c.loop-i in
-    putting-fits l.invariant c.loop-i-test.true
-    (sym c.in-Full.is ∙ c.put_finding-room.ensures.0
-    ∙ ap (room_after l.out l.put) (line-is _ _ c.entry_in-entry.ensures)) in
+pub loop-number-preserved : goal.loop-number-preserved
+loop-number-preserved c =
+    let l = c.loop-number in
+    let q = line-is _ _ c.entry_in-entry.ensures in
+    putting-more l.invariant c.loop-number-test.true c.in-Some.next c.put_finding.new.out
+    (sym c.in-Some.is ∙ c.put_finding.ensures.0 ∙ ap (room_after l.out l.put) q) (c.put_finding.ensures.1 ∙ ap (put_into l.out l.put) q)
+
+pub returns-in_default : goal.returns-in_default
+returns-in_default c =
+    let l = c.loop-number in
+    let fits_next : ⊥ =
+    putting-fits l.invariant c.loop-number-test.true
+    (sym c.in_default.is ∙ c.put_finding.ensures.0 ∙ ap (room_after l.out l.put) (line-is _ _ c.entry_in-entry.ensures)) in
     absurd fits_next
 
-pub loop-i-preserved : goal.loop-i-preserved
-loop-i-preserved c =
-    let l = c.loop-i in
-    let q = line-is _ _ c.entry_in-entry.ensures in
-    putting-more l.invariant c.loop-i-test.true c.in-Put.next c.put_finding-room.new.out
-    (sym c.in-Put.is ∙ c.put_finding-room.ensures.0 ∙ ap (room_after l.out l.put) q) (c.put_finding-room.ensures.1 ∙ ap (put_into l.out l.put) q)
-
-pub returns : goal.returns
-returns c =
-    putting-all c.loop-i.invariant (omega arith)
+pub returns-after-loop-number : goal.returns-after-loop-number
+returns-after-loop-number c =
+    let r = putting-all c.loop-number.invariant c.loop-number-test.false in
+    record { count = r.0; written = r.1 }

@@ -4,6 +4,6 @@ use Rattle.frames.proofs.pages.report_closing.Goals as goal
 pub returns : goal.returns
 returns c =
     let a = c.args in
-    let p = c.put_closing-room in
+    let p = c.put_closing-put in
     let r = counted-put a.out.now _ c.count_put.result p.result p.new.out c.count_put.ensures p.ensures in
-    record { fact = r.0; upper_bound = r.1 }
+    record { report = r.0; put_in_bounds = r.1 }

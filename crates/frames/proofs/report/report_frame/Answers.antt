@@ -1,7 +1,7 @@
 use Rattle.std.proofs.Common.{false, length, ap}
 use Rattle.utf.specs.declared.scheme.Scheme.TheVariants.{Utf8}
 use Rattle.table.specs.Limits.{limits}
-use Rattle.table.specs.Slices.{slices}
+use Rattle.table.specs.Held.{memory_of}
 use Rattle.convert.specs.Step.{substituting}
 use Rattle.convert.specs.Convert.{to_tested}
 use Rattle.frames.specs.Report.{convert_in}
@@ -12,10 +12,10 @@ pub returns : goal.returns
 unfolding convert_in
 returns c =
     let a = c.args in
-    let n = c.end_number in
-    let run = to_tested Utf8 limits a.rec
-    (slices a.states.now a.codes.now a.infos.now a.order.now) (substituting false)
+    let n = c.number in
+    let run = to_tested Utf8 limits a.lent.rec
+    (memory_of a.lent) (substituting false)
     a.frame.now in
     let r = answer_line-≡ (run (length a.text.now)) a.text.now c.to_unicode-done.new.out c.to_unicode-done.result
-    c.to_unicode-done.ensures.0 c.to_unicode-done.ensures.1 (run 16384) (ap run c.requires) n.result n.ensures in
+    c.to_unicode-done.ensures.answer c.to_unicode-done.ensures.written (run 16384) (ap run c.requires) n.result n.ensures in
     put_into-≡ a.out.now a.at r c.put_answer.result c.put_answer.new.out c.put_answer.ensures

@@ -1,14 +1,14 @@
 -- The two call each other; the measure is twice the bytes to come, and one more in next_on. Invariant of the loop in
 -- next_in: the first code after the position is the first one whose first byte is b or more.
--- Measure: bytes left to try.
-use Prim.Native.Nat.{◌-◌}
+use Prim.Native.Nat.{◌+◌, ◌-◌}
 use mathlib.Core.Path.{sym, ◌∙◌, ap}
 use native.Mathlib.Omega.{arith}
+use Rattle.std.specs.Prelude.{Some}
 use Rattle.table.specs.loops.Marks.{codes_led}
 use Rattle.table.specs.Codes.{bytes_of, unpacked}
+use mathlib.Core.List.{[]}
 use Rattle.table.specs.States.{step_at}
-use Rattle.table.specs.declared.codes.Next.TheVariants.{Found}
-use Rattle.table.proofs.Marks.{unpacked-more, unpacked-none, row-begin, row-found, row_next, row-over, on-illegal, on-ends, on-ended, next-none, next_more, next-short, leads-dead, leads-on}
+use Rattle.table.proofs.Marks.{unpacked-more, unpacked-none, row-begin, row-found, row_next, rows_over, on-illegal, on-ends, on-ended, next-none, next_more, next-short, leads-dead, leads-on}
 use Rattle.table.proofs.codes.+next_in_next_on.Goals as goal
 
 pub next_in-returns-then-left-eq0 : goal.next_in-returns-then-left-eq0
@@ -21,42 +21,43 @@ next_in-loop-b-init t c =
     let a = c.args in
     let w = row-begin (codes_led a.marks.now (step_at a.states.now) (a.left - 1)) (step_at a.states.now)
     a.row c.first_byte-b.result (bytes_of a.pos) c.first_byte-b.ensures (omega arith) in
-    (omega arith, w.0, w.1)
+    (w.0, w.1)
 
-pub next_in-returns-in-Found : goal.next_in-returns-in-Found
-next_in-returns-in-Found t c =
+pub next_in-returns-in-Some : goal.next_in-returns-in-Some
+next_in-returns-in-Some t c =
     let a = c.args in
     let s = codes_led a.marks.now (step_at a.states.now) (a.left - 1) in
     sym (next_more a.marks.now (step_at a.states.now) a.left a.row (bytes_of a.pos)
-    c.if-left-eq0.false ∙ c.loop-b.invariant.2
+    c.if-left-eq0.false ∙ c.loop-b.invariant.1
     ∙ row-found s (step_at a.states.now) a.row c.loop-b.b (bytes_of c.loop-b.at) _
-    c.loop-b.invariant.1 (omega arith) (sym c.next_on.ensures ∙ c.in-Found.is))
+    c.loop-b.invariant.0 (omega arith) (sym c.next_on.ensures ∙ c.in-Some.is))
 
 pub next_in-loop-b-preserved : goal.next_in-loop-b-preserved
 unfolding unpacked
 next_in-loop-b-preserved t c =
     let a = c.args in
     let s = codes_led a.marks.now (step_at a.states.now) (a.left - 1) in (
-      omega arith,
       tt,
-      c.loop-b.invariant.2 ∙ row_next s (step_at a.states.now) a.row c.loop-b.b
-          (bytes_of c.loop-b.at) c.loop-b.invariant.1 (omega arith)
+      c.loop-b.invariant.1 ∙ row_next s (step_at a.states.now) a.row c.loop-b.b
+          (bytes_of c.loop-b.at) c.loop-b.invariant.0 (omega arith)
           (sym c.next_on.ensures ∙ c.in_default.is),
     )
 
-pub next_in-returns : goal.next_in-returns
-next_in-returns t c =
+pub next_in-returns-in_default : goal.next_in-returns-in_default
+unfolding unpacked
+next_in-returns-in_default t c =
     let a = c.args in
     let s = codes_led a.marks.now (step_at a.states.now) (a.left - 1) in
     sym (next_more a.marks.now (step_at a.states.now) a.left a.row (bytes_of a.pos)
-    c.if-left-eq0.false ∙ c.loop-b.invariant.2
-    ∙ row-over s (step_at a.states.now) a.row c.loop-b.b (bytes_of c.loop-b.at)
-    (omega arith))
+    c.if-left-eq0.false ∙ c.loop-b.invariant.1
+    ∙ row_next s (step_at a.states.now) a.row c.loop-b.b (bytes_of c.loop-b.at) c.loop-b.invariant.0 (omega arith)
+    (sym c.next_on.ensures ∙ c.in_default.is)
+    ∙ rows_over s (step_at a.states.now) a.row (c.loop-b.b + 1) [] (omega arith))
 
 pub next_on-returns-then-pos-eq0 : goal.next_on-returns-then-pos-eq0
 next_on-returns-then-pos-eq0 t c =
     let a = c.args in
-    ap Found c.put_first.ensures
+    ap Some c.put_first.ensures
     ∙ sym (on-ends _ (step_at a.states.now) a.row a.b _ (bytes_of a.pos)
     (sym c.step_at.ensures
     ∙ c.in-Ends.is)
@@ -69,11 +70,11 @@ next_on-returns-then-not-is_marked t c =
     (sym c.step_at.ensures ∙ c.in-Leads.is)
     c.requires.1 (sym c.is_marked.ensures ∙ c.if-not-is_marked.true))
 
-pub next_on-put_first-requires-in-Found : goal.next_on-put_first-requires-in-Found
-next_on-put_first-requires-in-Found t c =
+pub next_on-put_first-requires-in-Leads : goal.next_on-put_first-requires-in-Leads
+next_on-put_first-requires-in-Leads t c =
     let a = c.args in
     let h = next-short a.marks.now (step_at a.states.now) a.left _ _ _
-    (sym c.next_in.ensures ∙ c.in-Found.is) in
+    (sym c.next_in.ensures ∙ c.in_ok-code-in-Leads.was) in
     omega arith
 
 pub next_on-returns-in-Illegal : goal.next_on-returns-in-Illegal
@@ -89,24 +90,24 @@ next_on-returns-else-pos-eq0 t c =
     (sym c.step_at.ensures ∙ c.in-Ends.is)
     (unpacked-more a.pos.len a.pos.bits c.if-pos-eq0.false) c.requires.1)
 
-pub next_on-returns-in-Found : goal.next_on-returns-in-Found
-next_on-returns-in-Found t c =
+pub next_on-returns-in_ok-code-in-Leads : goal.next_on-returns-in_ok-code-in-Leads
+next_on-returns-in_ok-code-in-Leads t c =
     let a = c.args in
-    ap Found c.put_first-in-Found.ensures
+    ap Some c.put_first-in-Leads.ensures
     ∙ sym (leads-on a.marks.now (step_at a.states.now) a.left a.row a.b _ (bytes_of a.pos)
     (sym c.step_at.ensures
     ∙ c.in-Leads.is) c.requires.1
     (sym c.is_marked.ensures
     ∙ c.if-not-is_marked.false) _
     c.rest.ensures _
-    (sym c.next_in.ensures ∙ c.in-Found.is))
+    (sym c.next_in.ensures ∙ c.in_ok-code-in-Leads.was))
 
-pub next_on-returns-in-Nothing : goal.next_on-returns-in-Nothing
-next_on-returns-in-Nothing t c =
+pub next_on-returns-in_err-code-in-Leads : goal.next_on-returns-in_err-code-in-Leads
+next_on-returns-in_err-code-in-Leads t c =
     let a = c.args in
-    sym (leads-on a.marks.now (step_at a.states.now) a.left a.row a.b _ (bytes_of a.pos)
+    c.from_residual.ensures ∙ sym (leads-on a.marks.now (step_at a.states.now) a.left a.row a.b _ (bytes_of a.pos)
     (sym c.step_at.ensures
     ∙ c.in-Leads.is) c.requires.1
     (sym c.is_marked.ensures
     ∙ c.if-not-is_marked.false) _ c.rest.ensures _
-    (sym c.next_in.ensures ∙ c.in-Nothing.is))
+    (sym c.next_in.ensures ∙ c.in_err-code-in-Leads.was))

@@ -1,7 +1,6 @@
 -- The two call each other; the measure is twice the bytes to come, and one more in next_on. Invariant of the loop in
 -- next_in: the first code after the position is the first one whose first byte is b or more.
--- Measure: bytes left to try.
-use Prim.Native.Nat.{◌+◌, ◌-◌, ◌≤◌}
+use Prim.Native.Nat.{◌+◌, ◌-◌}
 use mathlib.Core.Path.{◌≡◌}
 use Rattle.table.specs.loops.Marks.{codes_led, Starts}
 use Rattle.table.specs.Codes.{scan, first_code, bytes_of}
@@ -15,14 +14,10 @@ decreases-next_in l =
 
 abbrev pub invariant-next_in-loop-b : goal.invariant-next_in-loop-b
 invariant-next_in-loop-b l =
-    (l.b ≤ 256) × Starts l.b (bytes_of l.at) ×
+    Starts l.b (bytes_of l.at) ×
     (first_code (after (bytes_of l.initial.at) (scan (codes_led l.marks (step_at l.states) (l.left - 1))
     (step_at l.states) l.row 256 0)) ≡ first_code
     (after (bytes_of l.at) (scan (codes_led l.marks (step_at l.states) (l.left - 1)) (step_at l.states) l.row (256 - l.b) l.b)))
-
-abbrev pub decreases-next_in-loop-b : goal.decreases-next_in-loop-b
-decreases-next_in-loop-b l =
-    256 - l.b
 
 abbrev pub decreases-next_on : goal.decreases-next_on
 decreases-next_on l =

@@ -1,7 +1,5 @@
--- Invariant: the marks of the first i pairs of row and bytes to come, by bytes to come first, are those of the
--- definition.
--- Measure: pairs left.
-use Prim.Native.Nat.{◌-◌, ◌*◌, ◌≤◌}
+-- The marks of the first i pairs of row and bytes to come, by bytes to come first, are those of the definition.
+use Prim.Native.Nat.{◌*◌}
 use mathlib.Core.Path.{◌≡◌}
 use lib.ListN.{length}
 use Rattle.table.specs.Limits.{limits}
@@ -11,9 +9,4 @@ use Rattle.table.proofs.codes.mark_rows.Given as goal
 
 abbrev pub invariant-loop-i : goal.invariant-loop-i
 invariant-loop-i l =
-    (limits.rows ≤ l.i) × (l.i ≤ limits.rows * longest) × (length l.marks ≡ limits.rows * longest) × MarkedSoFar
-    (step_at l.states) l.marks l.i
-
-abbrev pub decreases-loop-i : goal.decreases-loop-i
-decreases-loop-i l =
-    limits.rows * longest - l.i
+    (length l.marks ≡ limits.rows * longest) × MarkedSoFar (step_at l.states) l.marks l.i

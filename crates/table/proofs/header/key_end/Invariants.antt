@@ -1,14 +1,8 @@
--- Invariant: the run of key bytes from i on ends where the one from `at` on ends. Measure: bytes left.
+-- Invariant: the run of key bytes from i on ends where the one from `at` on ends.
 use mathlib.Core.Path.{◌≡◌}
-use Prim.Native.Nat.{◌-◌, ◌≤◌}
-use lib.ListN.{length, drop}
+use lib.ListN.{drop}
 use Rattle.table.specs.Header.{key_end}
 use Rattle.table.proofs.header.key_end.Given as goal
 
 abbrev pub invariant-loop-i : goal.invariant-loop-i
-invariant-loop-i l =
-    (key_end l.at (drop l.at l.s) ≡ key_end l.i (drop l.i l.s)) × (l.at ≤ l.i) × (l.i ≤ length l.s)
-
-abbrev pub decreases-loop-i : goal.decreases-loop-i
-decreases-loop-i l =
-    length l.s - l.i
+invariant-loop-i l = key_end l.at (drop l.at l.s) ≡ key_end l.i (drop l.i l.s)

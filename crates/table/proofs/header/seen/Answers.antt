@@ -1,3 +1,4 @@
+use mathlib.Core.Logic.{inl, inr}
 use mathlib.Core.Path.{sym}
 use Rattle.table.specs.Codes.{bytes_of}
 use Rattle.table.specs.Numbers.{n11}
@@ -42,14 +43,8 @@ returns-in-SubChar1 c =
 pub returns-in-State : goal.returns-in-State
 unfolding n11
 returns-in-State c =
-    rw c.in-State.is
-
-pub returns-in-Base : goal.returns-in-Base
-unfolding n11
-returns-in-Base c =
-    rw c.in-Base.is
-
-pub returns-in-Other : goal.returns-in-Other
-unfolding n11
-returns-in-Other c =
-    rw c.in-Other.is
+    elim c.in-State.is [
+      | inl e ↦ rw e
+      | inr (inl e) ↦ rw e
+      | inr (inr e) ↦ rw e
+    ]

@@ -1,36 +1,14 @@
 -- The line at the place, if it fits, is the one that is found; else it is the search.
+use Rattle.std.specs.Prelude.{Some}
 use mathlib.Core.Path.{sym, ◌∙◌, subst}
-use native.Mathlib.Omega.{arith}
 use Rattle.table.specs.Lookup.{CodeFound}
 use Rattle.table.specs.declared.lookup.Mapping.{Mapping}
-use Rattle.table.specs.declared.lookup.Found.TheVariants as found
-use Rattle.table.proofs.Places.{holds_at_lem}
 use Rattle.table.proofs.FoundLines.{code-line}
 use Rattle.table.proofs.lookup.find_code_near.Goals as goal
-
-pub offset_bounds-codes-at : goal.offset_bounds-codes-at
-offset_bounds-codes-at c =
-    let h = sym c.reads_at.ensures ∙ c.if-reads_at.true in
-    omega (arith, (holds_at_lem _ _ _ _ _ h).0.in-codes)
-
-pub bounds-codes-at : goal.bounds-codes-at
-bounds-codes-at c =
-    let h = sym c.reads_at.ensures ∙ c.if-reads_at.true in
-    omega (arith, (holds_at_lem _ _ _ _ _ h).0.in-codes)
-
-pub offset_bounds-infos-at : goal.offset_bounds-infos-at
-offset_bounds-infos-at c =
-    let h = sym c.reads_at.ensures ∙ c.if-reads_at.true in
-    omega (arith, (holds_at_lem _ _ _ _ _ h).0.in-infos)
-
-pub bounds-infos-at : goal.bounds-infos-at
-bounds-infos-at c =
-    let h = sym c.reads_at.ensures ∙ c.if-reads_at.true in
-    omega (arith, (holds_at_lem _ _ _ _ _ h).0.in-infos)
 
 pub returns-then-reads_at : goal.returns-then-reads_at
 returns-then-reads_at c =
     let a = c.args in
-    let h = sym c.reads_at.ensures ∙ c.if-reads_at.true in
-    subst (λ (m : Mapping). CodeFound a.rec a.codes.now a.infos.now a.code (found.Line m)) (sym c.mapping_of.ensures)
-    (code-line a.rec a.codes.now a.infos.now a.code a.at h)
+    let h = sym c.reads_at.ensures.answer ∙ c.if-reads_at.true in
+    subst (λ (m : Mapping). CodeFound a.rec a.lines.codes.now a.lines.infos.now a.code (Some m)) (sym c.of_stored.ensures)
+    (code-line a.rec a.lines.codes.now a.lines.infos.now a.code a.at h)

@@ -1,18 +1,20 @@
--- Invariant: filling the places from i on gives the row that filling all of them gives. Measure: places left.
-use mathlib.Core.Path.{sym, ◌∙◌}
+use mathlib.Core.Path.{◌≡◌, sym}
 use native.Mathlib.Omega.{arith}
-use lib.ListN.{length-set}
-use Rattle.lists.proofs.Place.{spread-turn, spread_end}
+use Prim.Native.Nat.{◌+◌, ◌-◌}
+use lib.ListN.{length, take, drop, length-drop}
+use lib.Seq.{drop-drop}
+use Rattle.std.proofs.lemmas.List.{length-take-le}
+use Rattle.lists.specs.Place.{fill_range}
+use Rattle.lists.proofs.Place.{spread_end}
 use Rattle.table.proofs.row.fill_range.Goals as goal
 
-pub loop-i-preserved : goal.loop-i-preserved
-loop-i-preserved c =
-    let l = c.loop-i in
-    let a = c.args in (
-      l.invariant.0 ∙ spread-turn l.i a.to a.v l.row c.loop-i-test.true (omega arith),
-      length-set l.row l.i a.v ∙ l.invariant.1,
-    )
+pub returns-then-from-to : goal.returns-then-from-to
+unfolding fill_range
+returns-then-from-to c =
+    let a = c.args in
+    let n : length (take (a.to + 1 - a.from) (drop a.from a.row.now)) ≡ a.to + 1 - a.from =
+    length-take-le _ _ (omega (arith, length-drop a.from a.row.now)) in
+    rw (c.fill.ensures.after (λ y h. h), n, drop-drop)
 
-pub returns : goal.returns
-returns c =
-    let l = c.loop-i in let a = c.args in sym (l.invariant.0 ∙ spread_end l.i a.to a.v l.row (omega arith))
+pub returns-else-from-to : goal.returns-else-from-to
+returns-else-from-to c = sym (spread_end _ _ _ _ c.if-from-to.false)

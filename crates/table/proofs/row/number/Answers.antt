@@ -1,30 +1,17 @@
-use borrow.Author.Rules.{rules}
 use Rattle.table.specs.Text.{number_at}
-use Rattle.table.specs.loops.Ranges.{Within}
-use Rattle.table.proofs.TextLaws.{scan}
+use Rattle.table.proofs.TextLaws.{scan, item-some, item-none, digit-is}
 use Rattle.table.proofs.row.number.Goals as goal
 
-pub returns-then-s-at : goal.returns-then-s-at
-unfolding number_at Within
-returns-then-s-at c =
-    (search scan, tt)
+pub returns-in_err-get : goal.returns-in_err-get
+unfolding number_at
+returns-in_err-get c =
+    let h = item-none c.args.s.now c.args.at c.get.result c.get.ensures.lookup c.in_err-get.was in
+    rw c.from_residual.ensures (search scan)
 
-pub returns-then-x-ge16 : goal.returns-then-x-ge16
-unfolding number_at Within
-returns-then-x-ge16 c =
-    (search (scan, ← c.digit-x.ensures.0), tt)
-
-pub returns-then-s-b : goal.returns-then-s-b
-unfolding number_at Within
-returns-then-s-b c =
-    (search (scan, ← c.digit-x.ensures.0), search rules)
-
-pub returns-then-y-ge16 : goal.returns-then-y-ge16
-unfolding number_at Within
-returns-then-y-ge16 c =
-    (search (scan, ← c.digit-x.ensures.0, ← c.digit-y.ensures.0), search rules)
-
-pub returns : goal.returns
-unfolding number_at Within
-returns c =
-    (search (scan, ← c.digit-x.ensures.0, ← c.digit-y.ensures.0), search rules)
+pub returns-then-s-next : goal.returns-then-s-next
+unfolding number_at
+returns-then-s-next c =
+    let h = item-some c.args.s.now c.args.at c.get.result _ c.get.ensures.lookup c.in_ok-get.was in
+    let l = h.0 in
+    let d = digit-is _ _ c.in_ok-high.ensures in
+    search (scan, h.1, d.0)

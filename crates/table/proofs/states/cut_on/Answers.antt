@@ -30,7 +30,7 @@ returns-in-Ends c =
     let q = c.loop-at in
     let a = c.args in
     sym (cut-here (step_at a.states.now) a.first (4 - q.at) q.at_row q.at a.s.now
-    (Ends c.in-Ends.e) (λ e. omega arith) (omega arith)
+    (Ends c.in-Ends.kind) (λ e. omega arith) (omega arith)
     (sym c.step_at.ensures ∙ c.in-Ends.is)) ∙ q.invariant.0
 
 pub loop-at-preserved : goal.loop-at-preserved

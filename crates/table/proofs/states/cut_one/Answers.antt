@@ -24,7 +24,7 @@ returns-in-Illegal c =
 pub returns-in-Ends : goal.returns-in-Ends
 returns-in-Ends c =
     let a = c.args in
-    sym (cut-here (step_at a.states.now) a.row 4 a.row 0 a.s.now (Ends c.in-Ends.e)
+    sym (cut-here (step_at a.states.now) a.row 4 a.row 0 a.s.now (Ends c.in-Ends.kind)
     (λ e. omega arith) (omega arith) (sym c.step_at.ensures ∙ c.in-Ends.is))
 
 pub returns-in-Leads : goal.returns-in-Leads

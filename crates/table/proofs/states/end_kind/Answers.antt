@@ -2,6 +2,7 @@
 use Prim.Native.Nat.{ℕ, suc, ◌-◌, ◌*◌, ◌%◌}
 use mathlib.Core.Path.{◌≡◌, sym, ap, ◌∙◌}
 use native.Mathlib.Omega.{arith}
+use Rattle.std.specs.Prelude.{Some, None}
 use Rattle.lists.specs.Pick.{pick}
 use Rattle.table.specs.States.{step_at, end_kind}
 use Rattle.lists.specs.Tests.{is_empty}
@@ -24,9 +25,9 @@ returns-then-left-eq1 c =
     let m : q.left - 1 ≡ 0 = omega arith in
     let w : ℕ = q.bits % 16777216 * 256 in
     let h = end_kind-unpacked (step_at c.args.states.now) q.at_row q.left q.bits
-    (Ends c.in-Ends.e) c.loop-left-test.true
+    (Ends c.in-Ends.kind) c.loop-left-test.true
     (sym c.step_at.ensures ∙ c.in-Ends.is) in
-    sym (h ∙ ap (λ (k : ℕ). pick (is_empty (unpacked k w)) c.in-Ends.e 0) m) ∙ q.invariant.0
+    sym (h ∙ ap (λ (k : ℕ). pick (is_empty (unpacked k w)) (Some c.in-Ends.kind) None) m) ∙ q.invariant.0
 
 pub returns-in-Ends : goal.returns-in-Ends
 unfolding unpacked
@@ -35,9 +36,9 @@ returns-in-Ends c =
     let m : q.left - 1 ≡ suc (q.left - 2) = omega arith in
     let w : ℕ = q.bits % 16777216 * 256 in
     let h = end_kind-unpacked (step_at c.args.states.now) q.at_row q.left q.bits
-    (Ends c.in-Ends.e) c.loop-left-test.true
+    (Ends c.in-Ends.kind) c.loop-left-test.true
     (sym c.step_at.ensures ∙ c.in-Ends.is) in
-    sym (h ∙ ap (λ (k : ℕ). pick (is_empty (unpacked k w)) c.in-Ends.e 0) m) ∙ q.invariant.0
+    sym (h ∙ ap (λ (k : ℕ). pick (is_empty (unpacked k w)) (Some c.in-Ends.kind) None) m) ∙ q.invariant.0
 
 pub loop-left-preserved : goal.loop-left-preserved
 loop-left-preserved c =

@@ -18,7 +18,7 @@ pub returns-in-Ends : goal.returns-in-Ends
 unfolding unpacked
 returns-in-Ends c =
     let a = c.args in
-    sym (end_kind-unpacked (step_at a.states.now) a.row 1 a.bits (Ends c.in-Ends.e) (omega arith)
+    sym (end_kind-unpacked (step_at a.states.now) a.row 1 a.bits (Ends c.in-Ends.kind) (omega arith)
     (sym c.step_at.ensures ∙ c.in-Ends.is))
 
 pub returns-in-Leads : goal.returns-in-Leads

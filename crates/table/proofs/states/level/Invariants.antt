@@ -1,6 +1,4 @@
 -- Invariant: `out` is false exactly of the rows that a mark before j leads to a row where `below` is false.
--- Measure: marks left.
-use Prim.Native.Nat.{◌-◌, ◌*◌, ◌≤◌}
 use mathlib.Core.Path.{◌≡◌}
 use lib.ListN.{length}
 use Rattle.table.specs.Limits.{limits}
@@ -9,8 +7,4 @@ use Rattle.table.proofs.states.level.Given as goal
 
 abbrev pub invariant-loop-j : goal.invariant-loop-j
 invariant-loop-j l =
-    Levelled l.marks l.below l.out l.j × (length l.out ≡ limits.rows) × (l.j ≤ l.rows * limits.rows)
-
-abbrev pub decreases-loop-j : goal.decreases-loop-j
-decreases-loop-j l =
-    l.rows * limits.rows - l.j
+    Levelled l.marks l.below l.out l.j × (length l.out ≡ limits.rows)

@@ -1,6 +1,5 @@
 -- Invariant: all cells pass exactly if those from i on do; the marks are those of the cells before i.
--- Measure: cells left.
-use Prim.Native.Nat.{◌-◌, ◌*◌, ◌≤◌}
+use Prim.Native.Nat.{◌-◌, ◌*◌}
 use mathlib.Core.Path.{◌≡◌}
 use lib.ListN.{length, take, drop}
 use Rattle.lists.specs.Tests.{all_of}
@@ -11,8 +10,4 @@ use Rattle.table.proofs.states.mark_rows.Given as goal
 abbrev pub invariant-loop-i : goal.invariant-loop-i
 invariant-loop-i l =
     (all_of (state_ok l.rows) (take (l.rows * 256 - l.i) (drop l.i l.states)) ≡ all_of (state_ok l.rows)
-    (take (l.rows * 256) l.states)) × Seen l.marks l.states l.i × (length l.marks ≡ 256) × (l.i ≤ l.rows * 256)
-
-abbrev pub decreases-loop-i : goal.decreases-loop-i
-decreases-loop-i l =
-    l.rows * 256 - l.i
+    (take (l.rows * 256) l.states)) × Seen l.marks l.states l.i × (length l.marks ≡ 256)

@@ -7,10 +7,6 @@ use native.Mathlib.Omega.{arith}
 use lib.ListN.{length}
 use Rattle.table.proofs.store.place_new.Goals as goal
 
-pub returns-then-n-eq0 : goal.returns-then-n-eq0
-returns-then-n-eq0 c =
-    (omega arith, λ r. omega (arith, place-le c.args.codes.now c.args.infos.now (mk c.args.c c.args.i) c.requires))
-
 pub returns-then-stored_less : goal.returns-then-stored_less
 returns-then-stored_less c =
     let a = c.args in

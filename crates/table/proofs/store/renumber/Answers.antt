@@ -1,4 +1,4 @@
--- Invariant: the indices before k are renumbered, the others as they were. Measure: how many are left.
+-- Invariant: the indices before k are renumbered, the others as they were.
 use Rattle.lists.proofs.Place.{get_d-bumped, set-bumped, map-bump-none, get_d-take-<}
 use Rattle.lists.specs.Place.{bump}
 use lib.ListN.{length, take, get_or, length-set, take-append-drop}

@@ -1,4 +1,4 @@
--- Invariant: all are 0 exactly if those from k on are. Measure: numbers left.
+-- Invariant: all are 0 exactly if those from k on are.
 use Rattle.lists.proofs.Laws.{tests, drop-∷, drop_past}
 use Rattle.lists.specs.Tests.{zeros}
 use Rattle.table.proofs.store.zeros_ok.Goals as goal

@@ -1,19 +1,7 @@
-use Rattle.table.specs.Text.{cr_before}
-use Rattle.table.proofs.LinesLaws.{not-cr}
-use Rattle.lists.proofs.Laws.{tests, drop-∷, drop_past}
+use mathlib.Core.Path.{◌∙◌}
+use Rattle.lists.proofs.Laws.{drop-∷}
+use Rattle.table.proofs.LinesLaws.{cr-word}
 use Rattle.table.proofs.text.cr_before.Goals as goal
 
-pub returns-then-text-i-ne13 : goal.returns-then-text-i-ne13
-unfolding cr_before
-returns-then-text-i-ne13 c =
-    search (tests, not-cr)
-
-pub returns-then-text-j : goal.returns-then-text-j
-unfolding cr_before
-returns-then-text-j c =
-    search (tests, drop_past)
-
 pub returns : goal.returns
-unfolding cr_before
-returns c =
-    search (tests, drop-∷)
+returns c = c.word.ensures ∙ rw (drop-∷ c.args.text.now c.args.i c.requires) (cr-word _ _)

@@ -1,12 +1,9 @@
--- Invariant: the first line is the bytes from `at` to i and the first line of the rest; the lines behind it are those
--- of the rest.
--- Measure: bytes left.
 use mathlib.Core.Path.{◌≡◌, sym, ◌∙◌}
 use mathlib.Core.Bool.{true, false}
 use mathlib.Core.List.{[], ◌∷◌, append-nil}
-use Prim.Native.Nat.{◌+◌}
+use Prim.Native.Nat.{◌+◌, ◌-◌}
 use native.Mathlib.Omega.{arith}
-use lib.ListN.{drop, get_or, length-drop}
+use lib.ListN.{length, take, drop, get_or, length-drop}
 use Rattle.table.specs.Text.{cr_before}
 use Rattle.table.proofs.LinesLaws.{cr-first, cr-rest, cr-more}
 use Rattle.lists.proofs.Parts.{take-drop-snoc}
@@ -15,25 +12,25 @@ use Rattle.lists.proofs.Laws.{tests, drop-∷, drop_past}
 use Rattle.table.specs.loops.Coded.{first_line, rest_lines}
 use Rattle.table.proofs.text.cut_line.Goals as goal
 
-pub returns-then-text-i-eq10 : goal.returns-then-text-i-eq10
+pub returns-then-text-stop-eq10 : goal.returns-then-text-stop-eq10
 unfolding first_line rest_lines
-returns-then-text-i-eq10 c =
-    let l = c.loop-i in
+returns-then-text-stop-eq10 c =
+    let l = c.loop-stop in
     let t = c.args.text.now in
-    let e : first_line (drop l.i t) ≡ [] = search (tests, drop-∷) in
-    let f : rest_lines (drop l.i t) ≡ drop (l.i + 1) t = search (tests, drop-∷) in
+    let e : first_line (drop l.stop t) ≡ [] = search (tests, drop-∷) in
+    let f : rest_lines (drop l.stop t) ≡ drop (l.stop + 1) t = search (tests, drop-∷) in
     (sym (l.invariant.0 ∙ rw (e, append-nil)), sym (l.invariant.1 ∙ f), omega arith, omega arith, omega arith, omega arith)
 
 pub returns-then-cr_before : goal.returns-then-cr_before
 unfolding first_line rest_lines
 returns-then-cr_before c =
-    let l = c.loop-i in
+    let l = c.loop-stop in
     let t = c.args.text.now in
-    let h : cr_before (get_or t l.i 0) (drop (l.i + 1) t) ≡ true = sym c.cr_before.ensures ∙ c.if-cr_before.true in
-    let s = drop-∷ t l.i c.loop-i-test.true in
-    let k : l.i + 1 + 1 ≡ l.i + 2 = omega arith in
-    let e : first_line (drop l.i t) ≡ [] = rw s (search (tests, h, cr-first _ _ h)) in
-    let f : rest_lines (drop l.i t) ≡ drop (l.i + 2) t = rw s (search (tests, cr-rest _ _ h, drop-drop, k)) in (
+    let h : cr_before (get_or t l.stop 0) (drop (l.stop + 1) t) ≡ true = sym c.cr_before.ensures ∙ c.if-cr_before.true in
+    let s = drop-∷ t l.stop c.loop-stop-test.true in
+    let k : l.stop + 1 + 1 ≡ l.stop + 2 = omega arith in
+    let e : first_line (drop l.stop t) ≡ [] = rw s (search (tests, h, cr-first _ _ h)) in
+    let f : rest_lines (drop l.stop t) ≡ drop (l.stop + 2) t = rw s (search (tests, cr-rest _ _ h, drop-drop, k)) in (
       sym (l.invariant.0 ∙ rw (e, append-nil)),
       sym (l.invariant.1 ∙ f),
       omega arith,
@@ -42,27 +39,36 @@ returns-then-cr_before c =
       omega (
         arith,
         cr-more _ _ h,
-        length-drop (l.i + 1) t,
+        length-drop (l.stop + 1) t,
       ),
     )
 
-pub loop-i-preserved : goal.loop-i-preserved
+pub loop-stop-preserved : goal.loop-stop-preserved
 unfolding first_line rest_lines
-loop-i-preserved c =
-    let l = c.loop-i in
+loop-stop-preserved c =
+    let l = c.loop-stop in
     let t = c.args.text.now in
-    let lt = c.loop-i-test.true in
-    let h : cr_before (get_or t l.i 0) (drop (l.i + 1) t) ≡ false = sym c.cr_before.ensures ∙ c.if-cr_before.false in
-    let s = drop-∷ t l.i lt in
-    let e : first_line (drop l.i t) ≡ get_or t l.i 0 ∷ first_line (drop (l.i + 1) t) = rw s (search (tests, h)) in
-    let f : rest_lines (drop l.i t) ≡ rest_lines (drop (l.i + 1) t) = rw s (search tests) in
-    (l.invariant.0 ∙ rw e (sym (take-drop-snoc t _ _ l.i l.invariant.2 lt)), l.invariant.1 ∙ f, omega arith, omega arith)
+    let lt = c.loop-stop-test.true in
+    let h : cr_before (get_or t l.stop 0) (drop (l.stop + 1) t) ≡ false = sym c.cr_before.ensures ∙ c.if-cr_before.false in
+    let s = drop-∷ t l.stop lt in
+    let e : first_line (drop l.stop t) ≡ get_or t l.stop 0 ∷ first_line (drop (l.stop + 1) t) = rw s (search (tests, h)) in
+    let f : rest_lines (drop l.stop t) ≡ rest_lines (drop (l.stop + 1) t) = rw s (search tests) in
+    (l.invariant.0 ∙ rw e (sym (take-drop-snoc t _ _ l.stop l.auto.stop lt)), l.invariant.1 ∙ f)
 
 pub returns : goal.returns
 unfolding first_line rest_lines
 returns c =
-    let l = c.loop-i in
+    let l = c.loop-stop in
     let t = c.args.text.now in
-    let e : first_line (drop l.i t) ≡ [] = search drop_past in
-    let f : rest_lines (drop l.i t) ≡ drop l.i t = search drop_past in
-    (sym (l.invariant.0 ∙ rw (e, append-nil)), sym (l.invariant.1 ∙ f), omega arith, omega arith, omega arith, omega arith)
+    let k : l.stop ≡ length t = omega arith in
+    let e : first_line (drop l.stop t) ≡ [] = search drop_past in
+    let f : rest_lines (drop l.stop t) ≡ drop l.stop t = search drop_past in
+    let a : take (l.stop - c.args.at) (drop c.args.at t) ≡ first_line (drop c.args.at t) = sym (l.invariant.0 ∙ rw (e, append-nil)) in
+    let b : drop l.stop t ≡ rest_lines (drop c.args.at t) = sym (l.invariant.1 ∙ f) in (
+      rw k at a,
+      rw k at b,
+      omega arith,
+      omega arith,
+      omega arith,
+      omega arith,
+    )

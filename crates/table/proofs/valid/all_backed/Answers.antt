@@ -1,4 +1,4 @@
--- Invariant: the test of all stored mappings is that of those from k on behind the last one. Measure: stored mappings left.
+-- Invariant: the test of all stored mappings is that of those from k on behind the last one.
 use Rattle.table.proofs.TestLoops.{any_line, lines-backed, lines_none, lines-void, lines_start, lines_more, lines-fall, lines_end}
 use Rattle.table.specs.Memory.{stored_list}
 use Rattle.table.specs.Stored.{mk}

@@ -1,17 +1,6 @@
 use Rattle.table.proofs.TestParts.{t4_sub1-some}
 use Rattle.table.specs.States.{step_at}
-use Rattle.lists.proofs.Laws.{tests}
 use Rattle.table.proofs.valid.keeps_t4.Goals as goal
-
-pub returns-then-end_kind-eq0-2 : goal.returns-then-end_kind-eq0-2
-returns-then-end_kind-eq0-2 c =
-    let a = c.args in
-    rw (
-      t4_sub1-some (step_at a.steps.now) a.rec.subchar1 c.if-rec-eq0.false,
-      ← c.end_kind.ensures,
-      ← c.end_kind-2.ensures,
-    )
-    (search tests)
 
 pub returns : goal.returns
 returns c =
@@ -20,5 +9,7 @@ returns c =
       t4_sub1-some (step_at a.steps.now) a.rec.subchar1 c.if-rec-eq0.false,
       ← c.end_kind.ensures,
       ← c.end_kind-2.ensures,
+      c.is_none.ensures,
+      c.if-is_none.false,
     )
-    (search tests)
+    c.is_some.ensures

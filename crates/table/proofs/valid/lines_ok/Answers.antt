@@ -1,4 +1,4 @@
--- Invariant: the test of all stored mappings is that of those from k on behind the last one. Measure: stored mappings left.
+-- Invariant: the test of all stored mappings is that of those from k on behind the last one.
 use Rattle.table.proofs.TestLoops.{lines_none, lines-void, lines-out, lines_start, lines_more, lines-fall, lines-break, lines_end}
 use Rattle.table.specs.Valid.{line_ok}
 use Rattle.table.specs.States.{step_at}

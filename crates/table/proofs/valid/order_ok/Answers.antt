@@ -1,4 +1,4 @@
--- Invariant: the test of all indices is that of those from k on behind the last one, whose key is at hand. Measure: indices left.
+-- Invariant: the test of all indices is that of those from k on behind the last one, whose key is at hand.
 use Rattle.table.proofs.TestLoops.{ordered-none, ordered-out, ordered-start, index-out, index-more, index-no, index-end}
 use native.Mathlib.Omega.{arith}
 use mathlib.Core.Path.{sym, ◌∙◌}
@@ -36,19 +36,19 @@ loop-k-preserved c =
     let l = c.loop-k in (
       l.invariant.0 ∙ index-more a.codes.now a.infos.now a.order.now l.p l.k
           c.loop-k-test.true c.if-codes-q.false
-          (sym c.keys_next.ensures ∙ c.if-keys_next.true),
+          (sym c.keys_next.ensures ∙ c.if-not-keys_next.false),
       omega arith,
       omega arith,
       c.order_key-next.ensures,
     )
 
-pub returns-else-keys_next : goal.returns-else-keys_next
-returns-else-keys_next c =
+pub returns-then-not-keys_next : goal.returns-then-not-keys_next
+returns-then-not-keys_next c =
     let a = c.args in
     let l = c.loop-k in
     sym (l.invariant.0 ∙ index-no a.codes.now a.infos.now a.order.now l.p l.k
     c.loop-k-test.true c.if-codes-q.false
-    (sym c.keys_next.ensures ∙ c.if-keys_next.false))
+    (sym c.keys_next.ensures ∙ c.if-not-keys_next.true))
 
 pub returns : goal.returns
 returns c =

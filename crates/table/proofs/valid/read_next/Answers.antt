@@ -2,7 +2,7 @@
 use Rattle.table.proofs.StoredLaws.{reading, next-no}
 use Rattle.table.proofs.EntryTests.{read-next-less, read-next-same}
 use Rattle.table.specs.Stored.{mk}
-use Rattle.lists.proofs.Laws.{tests}
+use Rattle.std.proofs.Common.{rules}
 use native.Mathlib.Omega.{arith}
 use mathlib.Core.Path.{sym, ◌∙◌}
 use Rattle.table.proofs.valid.read_next.Goals as goal
@@ -16,29 +16,14 @@ returns-then-not-stored_less c =
     let a = c.args in
     sym (next-no reading (mk a.c a.i) (mk a.d a.j) (sym c.stored_less.ensures ∙ c.if-not-stored_less.true))
 
-pub returns-then-i-j : goal.returns-then-i-j
-returns-then-i-j c =
-    let a = c.args in
-    rw (read-next-same (mk a.c a.i) (mk a.d a.j) (omega arith)
-    (sym c.stored_less.ensures ∙ c.if-not-stored_less.false)) (search tests)
-
 pub returns-then-i-gt1 : goal.returns-then-i-gt1
 returns-then-i-gt1 c =
     let a = c.args in
     rw (read-next-same (mk a.c a.i) (mk a.d a.j) (omega arith)
-    (sym c.stored_less.ensures ∙ c.if-not-stored_less.false))
-    (search tests)
+    (sym c.stored_less.ensures ∙ c.if-not-stored_less.false)) (search rules)
 
-pub returns-then-j-gt1 : goal.returns-then-j-gt1
-returns-then-j-gt1 c =
+pub returns-else-i-gt1 : goal.returns-else-i-gt1
+returns-else-i-gt1 c =
     let a = c.args in
     rw (read-next-same (mk a.c a.i) (mk a.d a.j) (omega arith)
-    (sym c.stored_less.ensures
-    ∙ c.if-not-stored_less.false)) (search tests)
-
-pub returns : goal.returns
-returns c =
-    let a = c.args in
-    rw (read-next-same (mk a.c a.i) (mk a.d a.j) (omega arith)
-    (sym c.stored_less.ensures
-    ∙ c.if-not-stored_less.false)) (search tests)
+    (sym c.stored_less.ensures ∙ c.if-not-stored_less.false)) (search rules)

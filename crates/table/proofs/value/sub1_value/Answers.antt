@@ -1,43 +1,11 @@
 use Rattle.lists.proofs.Laws.{tests}
-use Rattle.table.proofs.HeaderLaws.{sub1_value-run_of}
+use Rattle.table.proofs.HeaderLaws.{sub1-lone}
 use Rattle.table.proofs.value.sub1_value.Goals as goal
 
-pub returns-in_default : goal.returns-in_default
-returns-in_default c =
-    rw (sub1_value-run_of, ← c.bytes_run-x.ensures.0, c.in_default.is)
-
-pub returns-then-plus : goal.returns-then-plus
-returns-then-plus c =
-    rw (sub1_value-run_of, ← c.bytes_run-x.ensures.0, c.in-Bytes.is, c.if-plus.true)
-
-pub returns-then-len-gt1 : goal.returns-then-len-gt1
-returns-then-len-gt1 c =
-    search (
-      tests,
-      sub1_value-run_of,
-      ← c.bytes_run-x.ensures.0,
-      c.in-Bytes.is,
-      c.if-plus.false,
-    )
-
-pub returns-then-v-t : goal.returns-then-v-t
-returns-then-v-t c =
-    search (
-      tests,
-      sub1_value-run_of,
-      ← c.bytes_run-x.ensures.0,
-      c.in-Bytes.is,
-      c.if-plus.false,
-      ← c.skip-t.ensures.0,
-    )
+pub returns-in_err-run : goal.returns-in_err-run
+returns-in_err-run c = rw (c.from_residual.ensures, sub1-lone, ← c.lone_run.ensures.0, c.in_err-run.was)
 
 pub returns : goal.returns
 returns c =
-    search (
-      tests,
-      sub1_value-run_of,
-      ← c.bytes_run-x.ensures.0,
-      c.in-Bytes.is,
-      c.if-plus.false,
-      ← c.skip-t.ensures.0,
-    )
+    let h = rw c.in_ok-run.was at c.lone_run.ensures.1 in
+    search (tests, sub1-lone, ← c.lone_run.ensures.0, c.in_ok-run.was)

@@ -1,4 +1,5 @@
 use Rattle.table.specs.Header.{value_of}
+use Rattle.table.proofs.HeaderLaws.{min-digit, max-digit}
 use Rattle.table.proofs.value.value_of.Goals as goal
 
 pub returns-in-CodeSetName : goal.returns-in-CodeSetName
@@ -6,15 +7,33 @@ unfolding value_of
 returns-in-CodeSetName c =
     rw (c.in-CodeSetName.is, ← c.name_value.ensures)
 
-pub returns-in-CurMin : goal.returns-in-CurMin
+pub returns-in_err-digit_value-in-CurMin : goal.returns-in_err-digit_value-in-CurMin
 unfolding value_of
-returns-in-CurMin c =
-    rw (c.in-CurMin.is, ← c.min_value.ensures)
+returns-in_err-digit_value-in-CurMin c =
+    let d = c.in_err-digit_value-in-CurMin in
+    rw (c.from_residual.ensures, c.in-CurMin.is, min-digit, ← c.digit_value.ensures, d.was)
 
-pub returns-in-CurMax : goal.returns-in-CurMax
+pub returns-in_ok-digit_value-in-CurMin : goal.returns-in_ok-digit_value-in-CurMin
 unfolding value_of
-returns-in-CurMax c =
-    rw (c.in-CurMax.is, ← c.max_value.ensures)
+returns-in_ok-digit_value-in-CurMin c =
+    rw (c.in-CurMin.is, min-digit, ← c.digit_value.ensures, c.in_ok-digit_value-in-CurMin.was)
+
+pub returns-in_err-digit_value-in-CurMax : goal.returns-in_err-digit_value-in-CurMax
+unfolding value_of
+returns-in_err-digit_value-in-CurMax c =
+    let d = c.in_err-digit_value-in-CurMax in
+    rw (
+      c.from_residual-in_err-digit_value-in-CurMax.ensures,
+      c.in-CurMax.is,
+      max-digit,
+      ← c.digit_value-in-CurMax.ensures,
+      d.was,
+    )
+
+pub returns-in_ok-digit_value-in-CurMax : goal.returns-in_ok-digit_value-in-CurMax
+unfolding value_of
+returns-in_ok-digit_value-in-CurMax c =
+    rw (c.in-CurMax.is, max-digit, ← c.digit_value-in-CurMax.ensures, c.in_ok-digit_value-in-CurMax.was)
 
 pub returns-in-ConvClass : goal.returns-in-ConvClass
 unfolding value_of
