@@ -13,6 +13,8 @@ use Rattle.table.specs.Limits.{limits}
 use Rattle.table.specs.Meaning.{Table, steps_of}
 use Rattle.table.specs.Memory.{table_in}
 use Rattle.table.specs.Valid.{valid}
+use Rattle.table.specs.Slices.{Slices}
+use Rattle.table.specs.declared.valid.Record.{Record}
 use Rattle.table.specs.declared.states.Code.{Code}
 use Rattle.table.specs.Load.{record_handed}
 use Rattle.audit.specs.Audit.{Finding, Answer, Ending, Looked, BadPosition, BadTable, entry_number, page_handed, ending_of, handed_on, space_after}
@@ -50,11 +52,16 @@ either pos false b page = inl refl
 either pos true false page = inr (inl refl)
 either pos true true page = inr (inr refl)
 
+pub tested-either : (rec : Record) (m : Slices) (fallback : Bool) (pos : Code) (allowance space : ℕ)
+    → let a = audit_tested limits rec m fallback pos allowance space in
+    (a ≡ refused BadTable pos) ⊎ ((a ≡ refused BadPosition pos) ⊎ (a.ending ≡ Looked))
+unfolding audit_tested audit_on
+tested-either rec m fallback pos allowance space = either pos (valid limits rec m) (is_position (steps_of (table_in rec m)) pos) _
+
 answer-either : (c : AuditFunctionCall)
     → (answer_to c ≡ refused BadTable (position_of c))
     ⊎ ((answer_to c ≡ refused BadPosition (position_of c)) ⊎ ((answer_to c).ending ≡ Looked))
-unfolding audit_tested audit_on
-answer-either c = either (position_of c) (valid limits (record_audited c) (slices_audited c)) (is_position (steps_of (table_in (record_audited c) (slices_audited c))) (position_of c)) _
+answer-either c = tested-either (record_audited c) (slices_audited c) (fallback_of c) (position_of c) (allowance_of c) (length (space_lent c))
 
 -- how the call ended is the answer's ending
 ended : (c : AuditFunctionCall) → ending_of c.result ≡ (answer_to c).ending

@@ -6,6 +6,7 @@ pub mod IllegalCalls
 pub mod PieceFunctionCalls
 pub mod StandingCalls
 pub mod AuditCalls
+pub mod ExportCalls
 pub mod FrameCalls
 pub mod PageCalls
 pub mod EndCalls

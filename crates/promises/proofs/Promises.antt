@@ -31,6 +31,7 @@ use Rattle.promises.proofs.IllegalCalls as illegal
 use Rattle.promises.proofs.PieceFunctionCalls as pieces
 use Rattle.promises.proofs.StandingCalls as standing
 use Rattle.promises.proofs.AuditCalls as audits
+use Rattle.promises.proofs.ExportCalls as exports
 use Rattle.promises.proofs.ProgramCalls as program
 
 -- two accepted texts
@@ -60,6 +61,7 @@ demand1 =
       load-answers = λ c. (c.post.0, c.post.1.0, c.post.1.1);
       load-refuses = refusals.load-refuses;
       refused-record = refusals.refused-record;
+      refused-writes-zeros = exports.refused-writes-zeros;
       refused-early = refusals.refused-early;
       refused-later = refusals.refused-later;
       beyond-untouched = refusals.beyond-untouched;
@@ -78,6 +80,7 @@ demand1 =
       close-refuses = pieces.close-refuses;
       audit-answers = audits.audit-answers;
       audit-refuses = audits.audit-refuses;
+      audit-refused-writes = exports.audit-refused-writes;
       code-found = λ c. c.post;
       point-found = λ c. c.post;
     }

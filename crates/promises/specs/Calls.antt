@@ -34,6 +34,10 @@ use Rattle.convert.proofs.pieces.close.Reads as close
 use Rattle.convert.proofs.pieces.close.Kinds as of-close
 use Rattle.audit.proofs.audit.Reads as audit
 use Rattle.audit.proofs.audit.Kinds as of-audit
+use Rattle.cabi.proofs.oboepond_load.Reads as oboepond-load
+use Rattle.cabi.proofs.oboepond_load.Kinds as of-oboepond-load
+use Rattle.cabi.proofs.oboepond_audit.Reads as oboepond-audit
+use Rattle.cabi.proofs.oboepond_audit.Kinds as of-oboepond-audit
 use Rattle.promises.specs.Called.{Called}
 
 -- ## `load`: a text into four lent slices
@@ -198,3 +202,38 @@ space_lent c = c.args.1.1.1.1.0.now
 
 abbrev pub space_afterwards : AuditFunctionCall → List ℕ
 space_afterwards c = c.exit.1.1.1.1.0.now
+
+-- ## `oboepond_load`, `oboepond_audit`: what C calls; the record and the results are numbers in lent slices
+
+abbrev pub LoadExportCall : Type 1
+LoadExportCall = Called 7 of-oboepond-load.ps of-oboepond-load.r oboepond-load.Post
+
+-- the slice for the record when it is called, and when it returns
+abbrev pub record_lent : LoadExportCall → List ℕ
+record_lent c = c.args.1.0.now
+
+abbrev pub record_after : LoadExportCall → List ℕ
+record_after c = c.exit.1.0.now
+
+abbrev pub AuditExportCall : Type 1
+AuditExportCall = Called 7 of-oboepond-audit.ps of-oboepond-audit.r oboepond-audit.Post
+
+-- the position that it got: its bits and its length
+abbrev pub bits_given : AuditExportCall → ℕ
+bits_given c = c.args.1.1.1.1.1.1.0
+
+abbrev pub length_given : AuditExportCall → ℕ
+length_given c = c.args.1.1.1.1.1.1.1.0
+
+-- the slices for entries and for results when it is called, and when it returns
+abbrev pub entries_lent : AuditExportCall → List ℕ
+entries_lent c = c.args.1.1.1.1.1.1.1.1.1.0.now
+
+abbrev pub entries_after : AuditExportCall → List ℕ
+entries_after c = c.exit.1.1.1.1.1.1.1.1.1.0.now
+
+abbrev pub results_lent : AuditExportCall → List ℕ
+results_lent c = c.args.1.1.1.1.1.1.1.1.1.1.0.now
+
+abbrev pub results_after : AuditExportCall → List ℕ
+results_after c = c.exit.1.1.1.1.1.1.1.1.1.1.0.now

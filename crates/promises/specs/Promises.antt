@@ -3,7 +3,7 @@
 -- through its fields.
 use Rattle.std.specs.Prelude.{Some, None}
 use Rattle.std.specs.Prelude.{ℕ, ◌+◌, ◌-◌, ◌*◌, ◌<◌, ◌≤◌, ◌≡◌, ◌↔◌, Bool, true}
-use Rattle.std.specs.Prelude.{false, List, [], ◌++◌, map, length, drop}
+use Rattle.std.specs.Prelude.{false, List, [], ◌∷◌, ◌++◌, map, length, drop}
 use Rattle.std.proofs.Math.Option.{none, some}
 use Rattle.std.specs.Prelude.{Some}
 use Rattle.lists.specs.Ascii.{ascii}
@@ -61,7 +61,10 @@ use Rattle.promises.specs.Calls.{settings_of, scheme_of, written_by, AuditFuncti
 use Rattle.promises.specs.Calls.{fallback_of, position_of}
 use Rattle.promises.specs.Calls.{allowance_of, space_lent, space_afterwards}
 use Rattle.promises.specs.Calls.{PieceFunctionCall, CloseFunctionCall, piece_parts, close_parts}
-use Rattle.promises.specs.Words.{RefusedFor, AllZeroed, SameBeyond, Words, AnswersBy, OnLoaded, AuditsBy}
+use Rattle.promises.specs.Calls.{LoadExportCall, record_lent, record_after}
+use Rattle.promises.specs.Calls.{AuditExportCall, bits_given, length_given, entries_lent, entries_after}
+use Rattle.promises.specs.Calls.{results_lent, results_after}
+use Rattle.promises.specs.Words.{RefusedFor, Zeroed, AllZeroed, SameBeyond, Words, AnswersBy, OnLoaded, AuditsBy}
 use Rattle.promises.specs.Words.{call_of, FindsCode, FindsPoint}
 use Rattle.promises.specs.Words.{AnswersPiece, DidNothing, memory_valid, kept_fitting, piece_call_of, close_call_of}
 use Rattle.promises.specs.Words.{PieceOn}
@@ -83,9 +86,14 @@ pub record Demand1 : Type 2 where
   -- holds, with the lowest number that holds there; 27 with the count of lines plus 1
   pub load-refuses : (c : LoadCall) (x : Refusal) (k : ℕ)
       → ((refusal_in c.result ≡ some x) × (line_refused c.result ≡ k)) ↔ RefusedFor c x k
-  -- and hands back a record of zeros; 1 and 2 leave the memory as it was, the others zero what is needed of it
+  -- and hands back a record of zeros
   pub refused-record : (c : LoadCall) (x : Refusal) → refusal_in c.result ≡ some x
       → record_handed c.result ≡ zero_record
+  -- for C: with a number other than 0 and 70 (a slice is too short) the record's seven numbers are zeros, and those
+  -- behind them as before
+  pub refused-writes-zeros : (c : LoadExportCall) → (c.result ≡ 0 → ⊥) → (c.result ≡ 70 → ⊥)
+      → Zeroed 7 (record_lent c) (record_after c)
+  -- 1 and 2 leave the memory as it was, the others zero what is needed of it
   pub refused-early : (c : LoadCall) (x : Refusal) → refusal_in c.result ≡ some x → refusal_number x ≤ 2
       → left_after c ≡ lent_to c
   pub refused-later : (c : LoadCall) (x : Refusal) → refusal_in c.result ≡ some x → 2 < refusal_number x
@@ -142,6 +150,11 @@ pub record Demand1 : Type 2 where
       AuditsBy a c
   pub audit-refuses : (c : AuditFunctionCall) → (ending_of c.result ≡ Looked → ⊥)
       → AuditsBy (refused (ending_of c.result) (position_of c)) c × (space_afterwards c ≡ space_lent c)
+  -- for C: with a number other than 0 and 70 the results are no entries, the position as it came, not finished, count
+  -- 0; the numbers behind them, and the entries, are as before
+  pub audit-refused-writes : (c : AuditExportCall) → (c.result ≡ 0 → ⊥) → (c.result ≡ 70 → ⊥)
+      → (results_after c ≡ 0 ∷ bits_given c ∷ length_given c ∷ 0 ∷ 0 ∷ drop 5 (results_lent c))
+      × (entries_after c ≡ entries_lent c)
   -- `find_code`, `find_point`: on any memory nothing, or a stored line; on memory that is valid the table's own line
   pub code-found : (c : CodeCall) → FindsCode c
   pub point-found : (c : PointCall) → FindsPoint c

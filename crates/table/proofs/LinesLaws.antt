@@ -1,5 +1,5 @@
 -- The lines of a text, taken apart at the first.
-use mathlib.Core.Path.{◌≡◌, refl, sym, ap}
+use mathlib.Core.Path.{◌≡◌, refl}
 use mathlib.Core.Bool.{Bool, true, false}
 use mathlib.Core.List.{List, [], ◌∷◌}
 use Prim.Native.Nat.{ℕ, ◌-◌, ◌<◌, ◌≤◌}
@@ -9,23 +9,13 @@ use lib.Dec.{eqb}
 use Rattle.lists.specs.Pick.{pick}
 use Rattle.lists.proofs.Laws.{drop-∷, drop_past, clash, and_right}
 use Rattle.table.specs.Text.{cr_before, lines_of}
-use Rattle.lists.specs.Strings.{onto, begins}
-use Rattle.lists.proofs.Choice.{pick-false-false, pick-true-false}
-use borrow.Author.Tests.{eq-eqb, ne_eqb, eqb-true, eqb-false}
+use Rattle.lists.specs.Strings.{onto}
 use Rattle.table.specs.loops.Coded.{first_line, rest_lines}
 
--- CR and LF as a word
-pub cr-word : (b : ℕ) (bs : List ℕ) → begins (13 ∷ 10 ∷ []) (b ∷ bs) ≡ cr_before b bs
-unfolding begins cr_before
-cr-word b [] = pick-false-false (eqb 13 b)
-cr-word b (d ∷ ds) = rw (eqb-turn 13 b, eqb-turn 10 d) (ap (λ (t : Bool). pick (eqb b 13) t false) (pick-true-false (eqb d 10)))
-  where
-    eqb-turn : (a b : ℕ) → eqb a b ≡ eqb b a
-    eqb-turn a b = go (eqb a b) refl
-      where
-        go : (t : Bool) → eqb a b ≡ t → t ≡ eqb b a
-        go true e = sym (eq-eqb b a (sym (eqb-true a b e)))
-        go false e = sym (ne_eqb b a (λ k. eqb-false a b e (sym k)))
+pub not-cr : (b : ℕ) (bs : List ℕ) → eqb b 13 ≡ false → cr_before b bs ≡ false
+unfolding cr_before
+not-cr b [] h = refl
+not-cr b (d ∷ ds) h = rw h
 
 -- behind a CR that belongs to a line's end stands an LF
 pub cr-first : (b : ℕ) (l : List ℕ) → cr_before b l ≡ true → first_line l ≡ []

@@ -18,7 +18,7 @@ use Rattle.std.proofs.lemmas.List.{get_or-drop}
 use lib.Seq.{take-length}
 use Rattle.lists.proofs.Laws.{tests, drop_past, clash, ¬true⇒false}
 use Rattle.lists.proofs.Cases.{pick-case}
-use Rattle.lists.proofs.Choice.{pick-true-false}
+use Rattle.lists.proofs.Choice.{pick-true-false, pick-false-false}
 use Rattle.lists.specs.Pick.{pick}
 use lib.Pointwise.{pointwise}
 use Rattle.lists.specs.Strings.{begins, same}
@@ -91,6 +91,15 @@ same_pointwise (a ∷ s) (b ∷ w) = rw (← same_pointwise s w) (both (eqb a b)
     both : (p q : Bool) → (p && q) ≡ pick p q false
     both true q = refl
     both false q = refl
+
+-- of other lengths
+pub same_lengths : (s w : List ℕ) → (length s ≡ length w → ⊥) → same s w ≡ false
+unfolding same
+same_lengths [] [] k = absurd (k refl)
+same_lengths [] (b ∷ w) k = refl
+same_lengths (a ∷ s) [] k = refl
+same_lengths (a ∷ s) (b ∷ w) k =
+    rw (same_lengths s w (λ e. k (omega (arith, e)))) (pick-false-false (eqb a b))
 
 -- nothing, whatever a test says
 pub none-if : (t : Bool) → only_if t None ≡ None

@@ -54,6 +54,8 @@ fn key_byte(b: u8) -> bool
 // The place of the `>` after a run of key bytes.
 // Kept as a loop: it looks for two things at once, the `>` and a byte that ends the search.
 // Text and place stay two arguments, as the definitions of the readers speak of both.
+// Not inlined: among all that `load` holds, the place would lie in memory.
+#[inline(never)]
 fn key_end(s: &[u8], at: usize) -> Option<usize>
     requires { at ≤ length s.now }
     ensures { (result ≡ key_end at (drop at s.now)) × Stands result at (length s.now) }
@@ -87,6 +89,8 @@ fn foreign_byte(b: u8) -> bool
 
 // The place where the content of a line ends: at a comment, or at the line's end.
 // Kept as a loop: what a byte means depends on the quotes before it.
+// Not inlined, as `key_end`.
+#[inline(never)]
 fn content_end(s: &[u8], at: usize) -> Option<usize>
     requires { at ≤ length s.now }
     ensures { (result ≡ content_end false at (drop at s.now)) × Placed result at (length s.now) }

@@ -110,8 +110,12 @@ fn is_end(s: &[u8], p: usize) -> bool
     requires { p ≤ length s.now }
     ensures { result ≡ is_end s.now p }
 {
+    // The word first: what follows is read once more only behind it.
+    if !word(s, p, b"END") {
+        return false;
+    }
     let q = skip(s, p + 3);
-    word(s, p, b"END") && q != p + 3 && q < s.len() && is_charmap(s, q)
+    q != p + 3 && q < s.len() && is_charmap(s, q)
 }
 
 // A line between CHARMAP and END CHARMAP.

@@ -140,12 +140,16 @@ fn read_entry(s: &[u8], at: usize) -> Option<(Entry, Option<usize>)>
     let (hi, q) = to_part(s, lo, q)?;
     let (next, q) = next_part(s, q)?;
     let (end, q) = end_part(s, q);
-    let entry = Entry { lo, hi, next, end };
-    if s.len() <= skip(s, q) {
-        return Some((entry, None));
-    }
-    let next = after(s, q, b',')?;
-    Some((entry, Some(next)))
+    // Not `after`: blanks before a comma would be skipped twice.
+    let p = skip(s, q);
+    let more = if s.len() <= p {
+        None
+    } else if s[p] == b',' {
+        Some(p + 1)
+    } else {
+        return None;
+    };
+    Some((Entry { lo, hi, next, end }, more))
 }
 
 // 14 of an entry: letter `s`, or an end with a next row other than 0.
@@ -202,12 +206,15 @@ impl<'a> Iterator for Entries<'a> {
 
     ghost remaining = { entries_most };
 
+    // Inlined: handed back through one more call, each entry would be packed and unpacked once more.
+    #[inline(always)]
     fn next(&mut self) -> Option<Option<Entry>> {
         let at = self.at?;
         match read_entry(self.text, at) {
-            Some((entry, next)) => {
-                self.at = next;
-                Some(Some(entry))
+            // Field by field: copied whole, the entry is read wider than it was written, and waits for that.
+            Some((Entry { lo, hi, next, end }, more)) => {
+                self.at = more;
+                Some(Some(Entry { lo, hi, next, end }))
             }
             None => {
                 self.at = None;

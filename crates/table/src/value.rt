@@ -65,7 +65,8 @@ pub enum Value {
 fn same(text: &[u8], name: &[u8]) -> bool
     ensures { result ≡ same text.now name.now }
 {
-    text == name
+    // The lengths first: `==` of slices is a call, and most keys differ in length.
+    text.len() == name.len() && text == name
 }
 
 // A key by its name.
@@ -131,7 +132,8 @@ fn digit_value(v: &[u8]) -> Option<u32>
     ensures { result ≡ digit_read (digit_in v.now (skip_at v.now 0)) }
 {
     let p = skip(v, 0);
-    if p < v.len() && v.len() <= skip(v, p + 1) && matches!(v[p], b'1'..=b'4') {
+    // The digit first: what follows is read once more only behind it.
+    if p < v.len() && matches!(v[p], b'1'..=b'4') && v.len() <= skip(v, p + 1) {
         Some(v[p] as u32 - 48)
     } else {
         None

@@ -3,9 +3,11 @@ use mathlib.Core.Bool.{true, false}
 use mathlib.Core.List.{[], ◌∷◌, append-nil}
 use Prim.Native.Nat.{◌+◌, ◌-◌}
 use native.Mathlib.Omega.{arith}
+use lib.Dec.{eqb}
+use borrow.Author.Tests.{ne_eqb}
 use lib.ListN.{length, take, drop, get_or, length-drop}
 use Rattle.table.specs.Text.{cr_before}
-use Rattle.table.proofs.LinesLaws.{cr-first, cr-rest, cr-more}
+use Rattle.table.proofs.LinesLaws.{not-cr, cr-first, cr-rest, cr-more}
 use Rattle.lists.proofs.Parts.{take-drop-snoc}
 use lib.Seq.{drop-drop}
 use Rattle.lists.proofs.Laws.{tests, drop-∷, drop_past}
@@ -42,6 +44,21 @@ returns-then-cr_before c =
         length-drop (l.stop + 1) t,
       ),
     )
+
+pub loop-stop-preserved-then-text-stop-gt13 : goal.loop-stop-preserved-then-text-stop-gt13
+unfolding first_line rest_lines
+loop-stop-preserved-then-text-stop-gt13 c =
+    let l = c.loop-stop in
+    let t = c.args.text.now in
+    let b = get_or t l.stop 0 in
+    let lt = c.loop-stop-test.true in
+    let n : eqb b 10 ≡ false = ne_eqb b 10 (λ e. omega (arith, e, c.if-text-stop-gt13.true)) in
+    let h : cr_before b (drop (l.stop + 1) t) ≡ false =
+    not-cr b _ (ne_eqb b 13 (λ e. omega (arith, e, c.if-text-stop-gt13.true))) in
+    let s = drop-∷ t l.stop lt in
+    let e : first_line (drop l.stop t) ≡ b ∷ first_line (drop (l.stop + 1) t) = rw s (search (tests, n, h)) in
+    let f : rest_lines (drop l.stop t) ≡ rest_lines (drop (l.stop + 1) t) = rw s (search (tests, n)) in
+    (l.invariant.0 ∙ rw e (sym (take-drop-snoc t _ _ l.stop l.auto.stop lt)), l.invariant.1 ∙ f)
 
 pub loop-stop-preserved : goal.loop-stop-preserved
 unfolding first_line rest_lines
