@@ -33,12 +33,10 @@ impl Code {
     fn rest(self) -> Code
         ensures { bytes_of result ≡ drop 1 (bytes_of self) }
     {
-        if self.len == 0 {
-            return self;
-        }
+        // No test for no bytes: there the bits say nothing.
         Code {
             bits: self.bits % TOP * 256,
-            len: self.len - 1,
+            len: self.len.saturating_sub(1),
         }
     }
 

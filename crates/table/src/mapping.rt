@@ -110,7 +110,7 @@ fn is_end(s: &[u8], p: usize) -> bool
     requires { p ≤ length s.now }
     ensures { result ≡ is_end s.now p }
 {
-    // The word first: what follows is read once more only behind it.
+    // The word first: where it does not stand, the blanks behind its place are not read.
     if !word(s, p, b"END") {
         return false;
     }

@@ -91,14 +91,15 @@ fn cell_number(states: &[u16], row: u16, b: u8) -> u16
 pub fn step_at(states: &[u16], row: u16, b: u8) -> Step
     ensures { result ≡ step_at states.now row b }
 {
-    // Numbers that are kept free have an arm of their own: conversions are slower with an arm for all others last.
+    // In this order for speed: with the ends first, a walk of full rows takes some 3 % more instructions.
+    // The numbers 4 to 15 are kept free.
     match cell_number(states, row, b) {
         0 => Step::Illegal,
+        e if LEADS <= e => Step::Leads(e - LEADS),
         1 => Step::Ends(EndKind::Assigned),
         2 => Step::Ends(EndKind::AnyPoint),
         3 => Step::Ends(EndKind::Unassigned),
-        4..=15 => Step::Illegal,
-        e => Step::Leads(e - LEADS),
+        4.. => Step::Illegal,
     }
 }
 
@@ -173,29 +174,21 @@ pub(crate) fn last_kind(states: &[u16], row: u16, bits: u32) -> Option<EndKind>
 pub fn end_kind(states: &[u16], row: u16, code: Code) -> Option<EndKind>
     ensures { result ≡ end_kind (step_at states.now) row (bytes_of code) }
 {
+    if code.len == 0 {
+        return None;
+    }
     let mut at_row = row;
     let mut bits = code.bits;
-    let mut left = code.len;
-    // No `for`: each byte is taken out of the bits as it is passed.
-    while 0 < left {
+    // Each byte but the last has to lead on.
+    for _ in 1..code.len {
         match step_at(states, at_row, (bits / TOP) as u8) {
-            Step::Illegal => {
-                return None;
-            }
-            Step::Ends(kind) => {
-                if left == 1 {
-                    return Some(kind);
-                }
-                return None;
-            }
-            Step::Leads(n) => {
-                at_row = n;
-                bits = bits % TOP * 256;
-                left -= 1;
-            }
+            Step::Illegal => return None,
+            Step::Ends(_) => return None,
+            Step::Leads(n) => at_row = n,
         }
+        bits = bits % TOP * 256;
     }
-    None
+    last_kind(states, at_row, bits)
 }
 
 // Which row leads on to which, where the cells of the rows are of the form and keep T2. Each cell is read once.

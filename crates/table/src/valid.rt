@@ -407,6 +407,8 @@ fn record_ok(rec: Record) -> bool
 }
 
 // T4: subchar is a complete code, and subchar1 too, if there is one.
+// Not inlined: it runs once a test, and inlined it took registers from the test of the lines, which runs for each.
+#[inline(never)]
 pub(crate) fn keeps_t4(steps: &[u16], rec: Record) -> bool
     requires { rec.subchar1 ≤ 256 }
     ensures { let step = step_at steps.now in

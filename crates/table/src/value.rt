@@ -132,7 +132,7 @@ fn digit_value(v: &[u8]) -> Option<u32>
     ensures { result ≡ digit_read (digit_in v.now (skip_at v.now 0)) }
 {
     let p = skip(v, 0);
-    // The digit first: what follows is read once more only behind it.
+    // The digit first: where none stands, the blanks behind its place are not read.
     if p < v.len() && matches!(v[p], b'1'..=b'4') && v.len() <= skip(v, p + 1) {
         Some(v[p] as u32 - 48)
     } else {

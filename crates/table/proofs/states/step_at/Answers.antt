@@ -27,9 +27,9 @@ unfolding step_at cell_in
 returns-in-0 c =
     ap (λ (x : ℕ). cell_step (cell_in x)) (sym c.in-0.is ∙ c.cell_number.ensures)
 
-pub returns-in-4-to-15 : goal.returns-in-4-to-15
+pub returns-in-4-to-65535 : goal.returns-in-4-to-65535
 unfolding step_at
-returns-in-4-to-15 c =
+returns-in-4-to-65535 c =
     let e = c.cell_number in
     sym (ap cell_step (cell_free e.result (omega arith) (omega arith))) ∙ ap (λ (x : ℕ). cell_step (cell_in x)) e.ensures
 

@@ -1,17 +1,19 @@
-use Prim.Native.Nat.{ℕ}
-use mathlib.Core.List.{List}
-use mathlib.Core.Path.{sym, ap}
+use Prim.Native.Nat.{ℕ, zero, suc, ◌-◌, ◌*◌, ◌%◌}
+use mathlib.Core.Path.{◌≡◌, ap}
+use native.Mathlib.Omega.{arith}
 use lib.ListN.{drop}
-use borrow.Author.Rules.{rules}
 use Rattle.table.specs.Codes.{unpacked}
-use Rattle.table.proofs.Marks.{unpacked-more}
 use Rattle.table.proofs.states.Code.rest.Goals as goal
 
-pub returns-then-self-eq0 : goal.returns-then-self-eq0
+-- the bytes behind the first, where there is one
+one-less : (n v m : ℕ) → m ≡ n - 1 → unpacked m (v % 16777216 * 256) ≡ drop 1 (unpacked n v)
 unfolding unpacked
-returns-then-self-eq0 c =
-    search rules
+one-less zero v m h = ap (λ (k : ℕ). unpacked k (v % 16777216 * 256)) h
+one-less (suc n) v m h =
+    let same : m ≡ n = omega (arith, h) in
+    ap (λ (k : ℕ). unpacked k (v % 16777216 * 256)) same
 
 pub returns : goal.returns
 returns c =
-    sym (ap (λ (s : List ℕ). drop 1 s) (unpacked-more c.args.self.len c.args.self.bits c.if-self-eq0.false))
+    let s = c.args.self in
+    one-less s.len s.bits c.saturating_sub.result c.saturating_sub.ensures
